@@ -40,7 +40,8 @@
  *
  * EDITIONS
  *   There are two editions of the bytes in the area. The format decides which one a store has, and the area tells it from
- *   then on: no other call is told, and word KURDAVEL_WORD_EDITION of the record says it.
+ *   then on: no other call is told, and word KURDAVEL_WORD_EDITION of the record says it. A store of edition 1 in service can
+ *   be carried over to edition 2, slot by slot (CARRYING A STORE OVER).
  *                                     edition 1                 edition 2
  *     versions                        1 to 4,294,967,294        1 to 18,446,744,073,709,551,614
  *     next version at the most        4,294,967,295             18,446,744,073,709,551,615
@@ -49,8 +50,10 @@
  *     bytes of their entries          19, 35, 67, 131           23, 39, 71, 135
  *     bytes of a tombstone            11                        15
  *     bytes of a slot's digest        13                        17
- *   All else is the same for both. Edition 2 is for a store that would use up the versions, of which every write and every
- *   delete takes one; edition 1 has room for more entries. Slots of both editions in one log are damage (28).
+ *     first byte of a slot in the log 5                         8
+ *   All else is the same for both. Edition 2 is for a store that would use up the versions, of which every write and
+ *   every delete takes one; edition 1 has room for more entries. A log whose head is of edition 2 may have slots of
+ *   edition 1, which are read by their own rules; a slot of edition 2 under a head of edition 1 is damage (28).
  *   kurdavel_convert makes an image of the one edition from an image of the other.
  *
  * HOW THE CALLS GO TOGETHER
@@ -62,8 +65,8 @@
  *   last step the work buffer must not change. Reads meanwhile show the store before the operation.
  *
  *   Every read, write and delete is given the tables that its caller may use: `first` to `last`, both included, none
- *   where first is above last. A key outside them is refused with 22, whatever the store holds. Cleaning, step and
- *   recovery take no tables: they serve all.
+ *   where first is above last. A key outside them is refused with 22, whatever the store holds. Cleaning, step, switch
+ *   and recovery take no tables: they serve all.
  *
  *   A boot loader that needs a value before the memory of the index is up asks kurdavel_scan_read: the area alone is
  *   enough. It answers as a read after a recovery would, also in the middle of an operation.
@@ -76,6 +79,38 @@
  *   that it read. The one that comes too late is then refused with 21 and loses nothing of the other's: it reads again
  *   and decides anew.
  *
+ * CARRYING A STORE OVER
+ *   A drive in service is carried over from edition 1 to edition 2 without a format. kurdavel_switch changes the record
+ *   alone: from then on every new head is of edition 2, and what it takes over is rewritten with it. The head of edition
+ *   1 takes appends while its versions last; past them an entry counts as not fitting the head, and 9 goes by edition
+ *   2's limit. All calls go on meanwhile, and a read tells the kind that the object has in its own slot. When the last
+ *   slot of edition 1 is cleaned, the store is one of edition 2. The promise about cuts holds all the way.
+ *   The area tells the edition of the head, and not the switch. So a recovery forgets the switch as long as the head is
+ *   of edition 1: switch again after it. Once a head of edition 2 is made there is no way back, and no need to switch
+ *   again.
+ *
+ *   An entry takes 4 bytes more in edition 2, and so does a digest. So what a full slot of edition 1 keeps may not fit a
+ *   new head: a cleaning of that one slot is then refused with 14, a delete for which there is no room with 12, and
+ *   kurdavel_join counts the sizes of edition 2.
+ *
+ *   Whether the way over is open is known beforehand: if what each slot of edition 1 in the log keeps, cleaned alone,
+ *   fits one new head, and the digest number is at most 4,294,967,295 less the number of these slots, then the cleanings
+ *   of these slots, one after the other with no other operation between, are all accepted, and at the end no slot of
+ *   edition 1 is left. That is proved. To find it out, while the head is of edition 1, for each slot i in word
+ *   KURDAVEL_WORD_MAP of the record:
+ *     kurdavel_switch, then kurdavel_clean with the victims 1 << i: 0 says that its entries fit, 14 that they do not;
+ *     kurdavel_recover, with an index as large, which gives up the cleaning and forgets the switch.
+ *   A start changes neither the area nor the index, and the recovery gives the record from before: nothing is decided yet.
+ *   Where a slot does not fit, keep the store in edition 1: delete what is not needed, clean, and ask again.
+ *
+ *   A store that is switched without asking may come to a stand. 12 slots of 470 bytes: 240 values of 8 bytes fill ten
+ *   slots of edition 1, 24 in each, of which only 19 fit a slot of edition 2. It is switched, and three keys of each
+ *   slot are deleted; their 30 tombstones fill a new head. Now 21 values of each slot are left, which are still too
+ *   many: every write and every delete is refused with 12, kurdavel_join with 23, and every cleaning with 14 but that of
+ *   the head, which has to keep all its tombstones. No recovery helps. Such a store does not pass the question above:
+ *   none of its ten slots fits. Five keys of each slot deleted and the slots cleaned before the switch, it does.
+ *   examples/c/carry.c shows the question and the way.
+ *
  * TWO OWNERS OF ONE STORE
  *   Parts of a firmware whose tables have none in common, and which give no others with their calls, can by them neither
  *   read nor change each other's values. What one gets (answers, versions, places, values) does not depend on the bytes
@@ -85,17 +120,17 @@
  *   stores, the versions, the slots and the places.
  *
  * WHAT THE CALLS COST
- *   A step before the last, kurdavel_next_store, kurdavel_fewest and the conversions of positions do the same little
- *   work whatever the store holds. A read, the start of a write or delete and the last step of either search the index
- *   once, but for a delete that is done as a cleaning (kurdavel_delete). Recovery, the start of a cleaning of slots
- *   that hold tombstones, the start of such a delete and the last step of every cleaning and of every such delete look
- *   at each entry of the log (at most (N - 1) * ((S - 13) / 11) of them, in edition 2 (N - 1) * ((S - 17) / 15)), with a
- *   search for each; recovery and these last steps also write all M words of the index. kurdavel_join takes no more than
- *   one and a half times as long as the starts of a cleaning of each slot of the log, one after another.
- *   kurdavel_scan_read looks at each entry of the log as recovery does, without the index, and takes no longer.
- *   kurdavel_convert makes the same checks, looks at each entry once more, twice where it converts to edition 2, and
- *   writes all N * S bytes. A search looks at few words while M is well above the number of keys, and never at more
- *   than the keys and one more.
+ *   A step before the last, kurdavel_next_store, kurdavel_fewest, kurdavel_switch and the conversions of positions do
+ *   the same little work whatever the store holds. A read, the start of a write or delete and the last step of either
+ *   search the index once, but for a delete that is done as a cleaning (kurdavel_delete). Recovery, the start of a
+ *   cleaning of slots that hold tombstones, the start of such a delete and the last step of every cleaning and of
+ *   every such delete look at each entry of the log (at most (N - 1) * ((S - 13) / 11) of them, without slots of
+ *   edition 1 (N - 1) * ((S - 17) / 15)), with a search for each; recovery and these last steps also write all M words
+ *   of the index. kurdavel_join takes no more than one and a half times as long as the starts of a cleaning of each
+ *   slot of the log, one after another. kurdavel_scan_read looks at each entry of the log as recovery does, without
+ *   the index, and takes no longer. kurdavel_convert makes the same checks, looks at each entry once more, twice where
+ *   it converts to edition 2, and writes all N * S bytes. A search looks at few words while M is well above the number
+ *   of keys, and never at more than the keys and one more.
  *   docs/PERFORMANCE.md has bounds and measured worst cases.
  *
  * THE PROMISE ABOUT CUTS, AND THE RULES OF USE THAT IT RESTS ON
@@ -144,28 +179,30 @@
  * INTERRUPTS AND TASKS
  *   One call at a time for each store, but reads, which change nothing, may overlap one another. A read from an
  *   interrupt or another task is allowed between two steps, not while a call that changes the record, the index or the
- *   area is under way. The same holds for kurdavel_scan_read, kurdavel_scan_read_value, kurdavel_next_store,
- *   kurdavel_fewest and kurdavel_join, which change nothing either, and for kurdavel_convert from the area of a store,
- *   which changes the target alone.
+ *   area is under way, as kurdavel_switch changes the record. The same holds for kurdavel_scan_read,
+ *   kurdavel_scan_read_value, kurdavel_next_store, kurdavel_fewest and kurdavel_join, which change nothing either, and
+ *   for kurdavel_convert from the area of a store, which changes the target alone.
  *
  * CHOOSING M, AND ROOM
  *   Every key with an entry in the log has one cell, and M - 1 keys is the most. A deleted key counts until no entry
  *   of it is left: a cleaning drops its older objects from the slots that it names, and its tombstone once no other
  *   slot has an object of the key. So M is to be above the number of live keys and of deleted ones not yet cleaned
- *   away, together. (N - 1) * ((S - 13) / 11) + 1 cells, in whole numbers, are enough for any log of edition 1, and
- *   (N - 1) * ((S - 17) / 15) + 1 for any of edition 2, where that is no more than 4,096. A search is shorter where more
- *   cells are free, and faster where M is a power of two.
+ *   away, together. (N - 1) * ((S - 13) / 11) + 1 cells, in whole numbers, are enough for any log, and
+ *   (N - 1) * ((S - 17) / 15) + 1 for any without slots of edition 1, where that is no more than 4,096. A search is
+ *   shorter where more cells are free, and faster where M is a power of two.
  *   One slot is always kept free for cleaning. In edition 1 an entry takes 11 bytes and its value (19, 35, 67 or 131), a
  *   tombstone 11, and a slot holds S - 13 bytes of them; in edition 2 it is 15 and the value (23, 39, 71 or 135), 15, and
- *   S - 17. A delete needs no room: a store that is full of live objects can be emptied again, one key after another.
+ *   S - 17. A delete needs no room: a store that is full of live objects can be emptied again, one key after another, unless
+ *   it is being carried over and its slots of edition 1 are too full (CARRYING A STORE OVER).
  *
  *   An idle task that cleans ahead of need asks kurdavel_fewest for its victim: of that slot the fewest bytes of
  *   objects are kept. The words KURDAVEL_WORD_PRESENT.. of the record say for each slot how many they are. Tombstones
  *   may be kept besides, 11 bytes each, and 15 in edition 2.
  *
  *   What helps after a refusal
- *    9  Only a format, which empties the store: no version is left. Reads and cleanings go on. A store of
- *       edition 1 may be formatted in edition 2, which has versions enough, or its image converted (kurdavel_convert).
+ *    9  No version is left. In edition 1 switch the store (kurdavel_switch): edition 2 has versions enough. Or format it in
+ *       edition 2, which empties it, or convert its image (kurdavel_convert). In edition 2 only a format helps. Reads and
+ *       cleanings go on.
  *   10  Only a format, which empties the store: no digest number is left. Reads go on, and so do writes and deletes
  *       whose entry fits the head.
  *   11  Clean the slots that hold entries of deleted keys, objects and tombstone of a key together or the objects
@@ -174,8 +211,10 @@
  *       between, unless digest numbers run out (it was at most 4,294,967,293 before). In general a cleaning takes one
  *       free slot and frees its victims: several at once, of which little still counts, give slots back; a single one
  *       gives back the room of those of its entries that no longer count. It does not help a store full of live objects:
- *       delete some, which is never refused with 12, and clean where the room that they leave is not in the head.
- *   14  Name fewer victims. What a single one holds always fits.
+ *       delete some, and clean where the room that they leave is not in the head. A delete is refused with 12 only where
+ *       the store is being carried over and the slot of its object, of edition 1, keeps too much for a new head: delete keys
+ *       of other slots, or clean others. See CARRYING A STORE OVER for a store in which nothing helps.
+ *   14  Name fewer victims. What a single one holds always fits, unless it is of edition 1 and the new head is not.
  *   21  Read the key again: another write or a delete came between. The value to be written may rest on an old one.
  *   22  Nothing: the key is another owner's.
  *   23  No cleaning of two slots gives a slot back. Clean the one that kurdavel_fewest tells, which gives back the room
@@ -200,8 +239,8 @@ extern "C" {
  * The version of this interface. MAJOR goes up when a program written for an earlier one may have to change, or an area
  * written by an earlier one may be refused; MINOR when something is added.
  */
-#define KURDAVEL_VERSION_MAJOR 6u
-#define KURDAVEL_VERSION_MINOR 1u
+#define KURDAVEL_VERSION_MAJOR 7u
+#define KURDAVEL_VERSION_MINOR 0u
 #define KURDAVEL_VERSION (KURDAVEL_VERSION_MAJOR * 1000u + KURDAVEL_VERSION_MINOR)
 
 /* Sizes. */
@@ -230,6 +269,7 @@ extern "C" {
 #define KURDAVEL_STACK_CLEAN 2560u
 #define KURDAVEL_STACK_STEP 2560u
 #define KURDAVEL_STACK_FEWEST 640u
+#define KURDAVEL_STACK_SWITCH 832u
 #define KURDAVEL_STACK_NEXT_STORE 320u
 #define KURDAVEL_STACK_JOIN 8960u
 #define KURDAVEL_STACK_SCAN_READ 4608u
@@ -254,10 +294,11 @@ enum kurdavel_word {
     KURDAVEL_WORD_DIGEST = 5,     /* digest number of the head */
     KURDAVEL_WORD_MAP = 6,        /* slots of the log: bit i, from the lowest, is slot i */
     KURDAVEL_WORD_NEXT = 7,       /* next version, its low half */
-    KURDAVEL_WORD_NEXT_HIGH = 8,  /* its high half, which is 0 in edition 1 */
+    KURDAVEL_WORD_NEXT_HIGH = 8,  /* its high half, which is 0 where the head is of edition 1 */
     KURDAVEL_WORD_KEYS = 9,       /* keys that have entries in the log, deleted ones too */
-    KURDAVEL_WORD_EDITION = 10,   /* edition of the log: 1 or 2, or the words are no record */
-    KURDAVEL_WORD_RESERVE_11 = 11, /* in reserve: 0, or the words are no record */
+    KURDAVEL_WORD_EDITION = 10,   /* edition of the head: 1 or 2, or the words are no record */
+    KURDAVEL_WORD_SWITCHED = 11,  /* 1 if a head of edition 1 was switched since the recovery, and 0 if not; else the
+                                     words are no record. A new head is of edition 2 if this is 1 or the head is of it */
     KURDAVEL_WORD_PENDING = 12,   /* see below */
     KURDAVEL_WORD_SLOT = 13,      /* slot of the new head, or 0 */
     KURDAVEL_WORD_VICTIMS = 14,   /* slots that are cleaned, or 0 */
@@ -284,17 +325,17 @@ enum kurdavel_answer {
     KURDAVEL_REFUSED_CELLS = 2,            /* M out of its limits */
     KURDAVEL_REFUSED_WORK_SHORT = 3,       /* work buffer of fewer than S bytes */
     KURDAVEL_REFUSED_BAD_RECORD = 4,       /* the words are no record, or too few; a number of it out of range, as a
-                                              next version above that of its edition; area or index not as long as it
-                                              says; or a byte in the log that no store makes */
+                                              next version above that of the head's edition; area or index not as long
+                                              as it says; or a byte in the log that no store makes */
     KURDAVEL_REFUSED_BUSY = 5,             /* another operation is under way */
     KURDAVEL_REFUSED_NONE_PENDING = 6,     /* no operation is under way */
     KURDAVEL_REFUSED_VALUE_LENGTH = 7,     /* a value is 8, 24, 56 or 120 bytes long, and this is not */
     KURDAVEL_REFUSED_ABSENT = 8,           /* the key was never written, or is deleted */
-    KURDAVEL_REFUSED_VERSIONS_SPENT = 9,   /* no version of the store's edition is left to give */
+    KURDAVEL_REFUSED_VERSIONS_SPENT = 9,   /* no version is left to give, in edition 1 or, once switched, in edition 2 */
     KURDAVEL_REFUSED_NUMBERS_SPENT = 10,   /* a new head is needed, and no digest number is left for it */
     KURDAVEL_REFUSED_KEYS_FULL = 11,       /* a new key, and M - 1 others have entries in the log */
-    KURDAVEL_REFUSED_NO_ROOM = 12,         /* a write: no room in the head, and a new head would take the last free
-                                              slot */
+    KURDAVEL_REFUSED_NO_ROOM = 12,         /* no room in the head, and a new head would take the last free slot; for a
+                                              delete also, what its slot keeps is too long for a new head of edition 2 */
     KURDAVEL_REFUSED_BAD_VICTIMS = 13,     /* the victims are none, or not all in the log */
     KURDAVEL_REFUSED_KEPT_TOO_LONG = 14,   /* what is kept of the victims is too long for one slot */
     KURDAVEL_REFUSED_BAD_ORDER = 15,       /* the order is not each slot once */
@@ -314,7 +355,8 @@ enum kurdavel_answer {
     KURDAVEL_REFUSED_BAD_FLOAT = 26,       /* the float is no whole number from 0 to 67,108,864, or its sign bit is
                                               set */
     KURDAVEL_REFUSED_BAD_COUNT = 27,       /* the count is above 67,108,864, or no float holds it */
-    KURDAVEL_REFUSED_BOTH_EDITIONS = 28,   /* slots of the log are of both editions */
+    KURDAVEL_REFUSED_BOTH_EDITIONS = 28,   /* a slot of the log is of edition 2 and its head of edition 1; at a
+                                              conversion, slots of the log are of both */
     KURDAVEL_REFUSED_SLOT_TOO_LONG = 29,   /* a conversion: digest and entries of a slot of the log would take more than
                                               S bytes */
     KURDAVEL_REFUSED_VERSION_TOO_WIDE = 30 /* a conversion: a version or a next version in the log that edition 1 does
@@ -331,11 +373,11 @@ uint32_t kurdavel_format(uint32_t slots, uint32_t slot_bytes, uint32_t edition, 
 /*
  * Reads the log and makes the record and the index. `order` names each slot 0 to N - 1 once, in the order in which
  * they are to be read; every order gives the same store. M is index_words. A pending operation is dropped. The edition
- * is that of the area.
+ * is that of the head; a switch before is forgotten.
  * Refused: 4, 1, 2, 15, 16, 17, 24, 25, 28, 18, 19, 20, in this order. Here 4 has one cause, a record shorter than
  * KURDAVEL_RECORD_WORDS. It belongs to this interface and not to recovery itself, which takes no record; it is
  * tested first, so that it hides any other cause. 17, 24, 25 and 28 tell apart what is wrong with the head's digest: its
- * number or next version, its map, or a slot that the map names, without a digest or of the other edition.
+ * number or next version, its map, or a slot that the map names, without a digest or of edition 2 under a head of edition 1.
  * After 20 no call that takes a record may be made before a recovery is accepted (rules of use).
  */
 uint32_t kurdavel_recover(uint32_t slots, uint32_t slot_bytes, const uint8_t *order, size_t order_bytes,
@@ -344,7 +386,7 @@ uint32_t kurdavel_recover(uint32_t slots, uint32_t slot_bytes, const uint8_t *or
 
 /*
  * Tells the version and the kind of a key's object: 1, 2, 3 or 7 for a value of 8, 24, 56 or 120 bytes, and 9, 10, 11 or
- * 12 in edition 2. Where it is refused, both are 0.
+ * 12 in a slot of edition 2. Where it is refused, both are 0.
  * Refused: 4, 22, 8, in this order.
  */
 uint32_t kurdavel_read(const uint32_t *record, size_t record_words, const uint8_t *area, size_t area_bytes,
@@ -387,9 +429,10 @@ uint32_t kurdavel_write_expecting(uint32_t *record, size_t record_words, const u
 /*
  * Starts to delete a key. Tells how many stores are to come.
  * Where its tombstone has no room in the head and a new head would take the last free slot, the slot that holds the
- * key's value is cleaned, as by kurdavel_clean, and the value is not among what is kept: so a delete is never refused
- * for want of room. Its stores are then as many as those of a cleaning, and its last step tells the delete's version.
- * Refused: 4, 22, 3, 5, 8, 9, 10, in this order.
+ * key's value is cleaned, as by kurdavel_clean, and the value is not among what is kept. Its stores are then as many as those
+ * of a cleaning, and its last step tells the delete's version. So a delete is refused for want of room only in a store that
+ * is being carried over: with 12, where that slot is of edition 1 and what it keeps does not fit a new head of edition 2.
+ * Refused: 4, 22, 3, 5, 8, 9, 12, 10, in this order.
  */
 uint32_t kurdavel_delete(uint32_t *record, size_t record_words, const uint8_t *area, size_t area_bytes,
                          const uint32_t *index, size_t index_words, uint8_t *work, size_t work_bytes, uint16_t first,
@@ -397,7 +440,8 @@ uint32_t kurdavel_delete(uint32_t *record, size_t record_words, const uint8_t *a
 
 /*
  * Starts to clean the slots of a map (bit i, from the lowest, is slot i): a new head takes over what they hold that
- * still counts, and they become free. The head may be among them. Tells how many stores are to come.
+ * still counts, and they become free. The head may be among them. Tells how many stores are to come. Where the new head is of
+ * edition 2, what it takes over of slots of edition 1 is 4 bytes longer for each entry.
  * Refused: 4, 3, 5, 13, 14, 10, in this order.
  */
 uint32_t kurdavel_clean(uint32_t *record, size_t record_words, const uint8_t *area, size_t area_bytes,
@@ -431,9 +475,19 @@ uint32_t kurdavel_next_store(const uint32_t *record, size_t record_words, const 
 uint32_t kurdavel_fewest(const uint32_t *record, size_t record_words, uint32_t *slot);
 
 /*
+ * Switches a store of edition 1 to edition 2: from then on every new head is of edition 2, and what it takes over is
+ * rewritten with it (CARRYING A STORE OVER). It changes the record alone, of which word KURDAVEL_WORD_SWITCHED becomes
+ * 1. A store that is switched, or whose head is of edition 2, it leaves as it is, and accepts that. A recovery forgets
+ * it.
+ * Refused: 4, 5, in this order. No other buffer is lent, so that 4 looks at the record alone.
+ */
+uint32_t kurdavel_switch(uint32_t *record, size_t record_words);
+
+/*
  * Tells two slots of the log, *first below *second, whose cleaning together is not refused with 14: what they hold that
- * still counts fits one slot. Of all such pairs it is the one with the lowest first slot, and among these with the lowest
- * second. The head may be one of them. Clean (1 << *first) | (1 << *second) to join them. Where it is refused, both are 0.
+ * still counts fits one slot, as long as it is in the edition of a new head. Of all such pairs it is the one with the
+ * lowest first slot, and among these with the lowest second. The head may be one of them. Clean (1 << *first) | (1 <<
+ * *second) to join them. Where it is refused, both are 0.
  * Refused: 4, 5, 23, in this order. The digest number plays no part: 10 may refuse the cleaning.
  */
 uint32_t kurdavel_join(const uint32_t *record, size_t record_words, const uint8_t *area, size_t area_bytes,
@@ -464,10 +518,11 @@ uint32_t kurdavel_scan_read_value(uint32_t slots, uint32_t slot_bytes, const uin
  * entries in the same order, objects and tombstones; every other byte of it becomes 0. A recovery of it gives the same keys
  * with the same values and versions and the same next version, and the conversion back gives the same log. The source is
  * only read.
- * Refused: 1, 16, 17, 24, 25, 28, 18, 19, 29, 30, in this order. 1 is for either buffer, both of which are N * S bytes long;
- * those from 16 to 19 are recovery's, and there may be more keys than any index takes. 29 can only come up on the way to
- * edition 2, whose entries are longer, and 30 only on the way to edition 1. All is tested before the first byte is written:
- * a refusal leaves the target as it was.
+ * Refused: 1, 16, 17, 24, 25, 28, 18, 19, 29, 30, in this order. 1 is for either buffer, both of which are N * S bytes
+ * long; those from 16 to 19 are recovery's, but 28 is for any log of both editions, also of a store that is being carried
+ * over; and there may be more keys than any index takes. 29 can only come up on the way to edition 2, whose entries are
+ * longer, and 30 only on the way to edition 1. All is tested before the first byte is written: a refusal leaves the target
+ * as it was.
  * The two buffers may not overlap. A cut during this call is not covered: like a format, a conversion into the area or the
  * work buffer of a store is outside the promise about cuts. Convert again, and recover before any other call.
  */
@@ -624,6 +679,10 @@ static inline uint32_t kurdavel_store_next_store(const struct kurdavel_store *st
 
 static inline uint32_t kurdavel_store_fewest(const struct kurdavel_store *store, uint32_t *slot) {
     return kurdavel_fewest(store->record.words, KURDAVEL_RECORD_WORDS, slot);
+}
+
+static inline uint32_t kurdavel_store_switch(struct kurdavel_store *store) {
+    return kurdavel_switch(store->record.words, KURDAVEL_RECORD_WORDS);
 }
 
 static inline uint32_t kurdavel_store_join(const struct kurdavel_store *store, uint32_t *first, uint32_t *second) {

@@ -2,7 +2,7 @@
  * The edges of the interface: refusals and what they leave, an operation that is given up, an index that is too small
  * for the log, two passes that write over what they read, two owners with tables of their own, the longest value, a full
  * store that is emptied, an idle task that chooses what to clean, two slots that are joined, a damaged digest, the versions
- * of either edition, and a boot loader that has no index yet.
+ * of either edition, a switch to the second, and a boot loader that has no index yet.
  * Prints what is answered; `rules.stdout` beside this file is what it must print.
  */
 #include "kurdavel.h"
@@ -302,7 +302,7 @@ static void damaged_digest(struct kurdavel_store *store) {
 
 /*
  * The edition decides how far the versions go: of two stores with the same next version, 4,294,967,295, that of edition 1
- * has none left to give. There is no third edition, and no log of both.
+ * has none left to give. There is no third edition, and a log has slots of both only where its head is of edition 2.
  */
 static void editions(struct kurdavel_store *store) {
     static const enum kurdavel_edition both[2] = {KURDAVEL_EDITION_1, KURDAVEL_EDITION_2};
@@ -325,11 +325,43 @@ static void editions(struct kurdavel_store *store) {
     store->record.words[KURDAVEL_WORD_EDITION] = 3;
     printf("record of edition 3: %u\n", (unsigned)kurdavel_store_fewest(store, &slot));
 
-    /* The map names slot 1 too, which begins with a digest of edition 1. */
-    medium[5] = 0x03;
-    memset(medium + SLOT_BYTES, 0, 13);
-    medium[SLOT_BYTES] = 5;
-    printf("log of both editions: %u\n", (unsigned)kurdavel_store_recover(store, order, sizeof order));
+    /* The map names slot 1 too, which begins with a digest of the other edition. */
+    for (i = 0; i < 2; i++) {
+        expect_accepted("format", kurdavel_store_format(&store->area, both[i]));
+        medium[5] = 0x03;
+        memset(medium + SLOT_BYTES, 0, 17);
+        medium[SLOT_BYTES] = i == 0 ? 8 : 5;
+        printf("log of both editions under a head of edition %u: %u\n", (unsigned)(i + 1),
+               (unsigned)kurdavel_store_recover(store, order, sizeof order));
+    }
+}
+
+/* A store of edition 1 that has used up its versions is switched, and goes on in edition 2. A switch changes the record alone. */
+static void switches(struct kurdavel_store *store) {
+    static const uint8_t value[8] = {0x51};
+    uint32_t stores = 0, kind = 0;
+    uint64_t version = 0;
+    expect_accepted("format", kurdavel_store_format(&store->area, KURDAVEL_EDITION_1));
+    memset(medium + 9, 0xff, 4);
+    medium[9] = 0xfe;
+    expect_accepted("recover", kurdavel_store_recover(store, order, sizeof order));
+    stores = start_write(store, 0);
+    printf("switch during a write: %u\n", (unsigned)kurdavel_store_switch(store));
+    finish(store, stores);
+    printf("the last version is given, a write: %u\n",
+           (unsigned)kurdavel_store_write(store, servo, key_of(1), value, sizeof value, &stores));
+    printf("switch: %u", (unsigned)kurdavel_store_switch(store));
+    printf(", and again: %u\n", (unsigned)kurdavel_store_switch(store));
+    finish(store, start_write(store, 1));
+    expect_accepted("read", kurdavel_store_read(store, servo, key_of(1), &version, &kind));
+    printf("written into a new head: version %" PRIu64 ", kind %u", version, (unsigned)kind);
+    expect_accepted("read", kurdavel_store_read(store, servo, key_of(0), &version, &kind));
+    printf("; in the old slot: version %" PRIu64 ", kind %u\n", version, (unsigned)kind);
+    expect_accepted("recover", kurdavel_store_recover(store, order, sizeof order));
+    printf("recovered: edition %u, next version %" PRIu64 "\n", (unsigned)store->record.words[KURDAVEL_WORD_EDITION],
+           kurdavel_store_next_version(store));
+    store->record.words[KURDAVEL_WORD_SWITCHED] = 2;
+    printf("switch of words that are no record: %u\n", (unsigned)kurdavel_store_switch(store));
 }
 
 /* A boot loader reads one value from the area alone: no index, no record, no work buffer. */
@@ -390,6 +422,7 @@ int main(void) {
     join(&store);
     damaged_digest(&store);
     editions(&store);
+    switches(&store);
     boot_loader(&store);
     return 0;
 }

@@ -5,7 +5,7 @@ use mathlib.Core.Bool.{Bool, true, false, not}
 use mathlib.Core.Option.{Option, none, some}
 use mathlib.Core.List.{List, [], _∷_, _++_}
 use native.Mathlib.Omega.{arith}
-use lib.Dec.{eqb}
+use lib.Dec.{eqb, ltb}
 use lib.ListN.{length, length-append}
 use lib.Seq.{sets, length-sets}
 use borrow.Author.Tests.{not-false}
@@ -17,6 +17,7 @@ use Rattle.segment.specs.DigestLaws.{length-encodedDigest}
 use Rattle.slot_map.specs.Bit.{within}
 use Rattle.record.specs.Range.{fitsLent}
 use Rattle.record.specs.RangeLaws.{Lent, lent}
+use Rattle.record.specs.Switch.{newLayout}
 use Rattle.record.specs.declared.Pending.the-variants.{Clean}
 use Rattle.record.specs.declared.Refusal.{Refusal}
 use Rattle.record.specs.declared.Refusal.the-variants.{BadRecord, WorkShort, Busy, BadVictims, KeptTooLong, NumbersSpent}
@@ -25,7 +26,7 @@ use Rattle.record.specs.declared.Record.{Record}
 use Rattle.model.specs.Log.{Placed}
 use Rattle.model.specs.Causes.{Cause, when, firstCause}
 use Rattle.model.specs.Operations.{clean, logNow, newSlot, newDigest, kept, allEncoded, laid, planOf}
-use Rattle.model.specs.Refused.{Lengths, freely, recordBad, workShort, isPending, victimsBad, keptTooLong, numbersSpent, cleanCauses, earlyCauses, startCauses}
+use Rattle.model.specs.Refused.{Lengths, freely, recordBad, workShort, isPending, victimsBad, numbersSpent, cleanCauses, earlyCauses, startCauses}
 use Rattle.model.specs.Promises.{Begun, begun, Genuine, lentLengths, StartPromise}
 use Rattle.laws.specs.CauseLaws.{cause-first, first-some}
 use Rattle.laws.specs.SaidLaws.{start-settled}
@@ -59,10 +60,10 @@ pub record CleanFits (L : Layout) (r : Record) (victims : ℕ) (split : Split) (
   pub shape : SplitFits split area marks
   pub long : r .size ≤ length work
 
--- The new head's bytes fit a segment, and the work buffer.
-pub record Room (L : Layout) (r : Record) (split : Split) (area chosen work : List ℕ) : Type 0 where
+-- The new head's bytes fit a segment, and the work buffer. Here and below W is the edition of the new head.
+pub record Room (W : Layout) (r : Record) (split : Split) (area chosen work : List ℕ) : Type 0 where
   pub shape : ChosenFits split area chosen
-  pub fits : digestSize L + length (chosenBytes L area chosen split) ≤ r .size
+  pub fits : digestSize W + length (chosenBytes W area chosen split) ≤ r .size
   pub long : r .size ≤ length work
 
 -- ---- the answer
@@ -73,47 +74,50 @@ cleaningWith r victims slot n = startedWith r (Clean slot victims n (headStores 
 
 -- a cleaning that keeps these bytes
 unfoldable pub begunWith : Layout → Record → ℕ → List ℕ → List ℕ → Option Refusal → Begun
-begunWith L r victims work bytes none =
+begunWith W r victims work bytes none =
     record {
-      start = cleaningWith r victims (newSlot r) (digestSize L + length bytes);
-      work = sets work 0 (encodedDigest L (newDigest r victims) ++ bytes);
+      start = cleaningWith r victims (newSlot r) (digestSize W + length bytes);
+      work = sets work 0 (encodedDigest W (newDigest r victims) ++ bytes);
     }
-begunWith L r victims work bytes (some c) = record { start = refusedStart r c; work = work }
+begunWith W r victims work bytes (some c) = record { start = refusedStart r c; work = work }
 
 -- the causes that are tested before anything is measured, and those after it, for n bytes kept
 unfoldable pub frontCauses : Layout → Record → Lengths → ℕ → List Cause
 frontCauses L r l victims = when (recordBad L r l) BadRecord ∷ idleCauses r (l .work) ++ (when (victimsBad r victims) BadVictims ∷ [])
 
 unfoldable pub keptCauses : Layout → Record → ℕ → List Cause
-keptCauses L r n = when (keptTooLong L r n) KeptTooLong ∷ when (numbersSpent r) NumbersSpent ∷ []
+keptCauses W r n = when (ltb (r .size) (digestSize W + n)) KeptTooLong ∷ when (numbersSpent r) NumbersSpent ∷ []
 
 unfoldable pub markedWith : Layout → Record → ℕ → List ℕ → List ℕ → Begun
-markedWith L r victims work bytes = begunWith L r victims work bytes (firstCause (keptCauses L r (length bytes)))
+markedWith W r victims work bytes = begunWith W r victims work bytes (firstCause (keptCauses W r (length bytes)))
 
--- the causes of a cleaning that keeps these bytes: 01's, which are those two parts
+-- the causes of a cleaning that keeps these bytes: 01's, which are those two parts in the edition of the record's next new head
 unfoldable pub causesWith : Layout → Record → Lengths → List ℕ → ℕ → List Cause
 causesWith L r l bytes victims = cleanCauses L r l (length bytes) victims
 
 abbrev pub cleanedWith : Layout → Record → ℕ → Lengths → List ℕ → List ℕ → Begun
-cleanedWith L r victims l work bytes = begunWith L r victims work bytes (firstCause (causesWith L r l bytes victims))
+cleanedWith L r victims l work bytes = begunWith (newLayout r) r victims work bytes (firstCause (causesWith L r l bytes victims))
 
 -- ---- with the bytes that the model keeps it is the model's start
 
 module _ (L : Layout) (r : Record) (log : List Placed) (victims : ℕ) (work : List ℕ) where
+  abbrev W : Layout
+  W = newLayout r
+
   abbrev model-bytes : List ℕ
-  model-bytes = allEncoded L (kept victims log)
+  model-bytes = allEncoded W (kept victims log)
 
-  model-length : length (encodedDigest L (newDigest r victims) ++ model-bytes) ≡ digestSize L + length model-bytes
+  model-length : length (encodedDigest W (newDigest r victims) ++ model-bytes) ≡ digestSize W + length model-bytes
   model-length =
-      length-append (encodedDigest L (newDigest r victims)) model-bytes
-      ∙ ap (λ (k : ℕ). k + length model-bytes) (length-encodedDigest L (newDigest r victims))
+      length-append (encodedDigest W (newDigest r victims)) model-bytes
+      ∙ ap (λ (k : ℕ). k + length model-bytes) (length-encodedDigest W (newDigest r victims))
 
-  begun-same : (o : Option Refusal) → begunWith L r victims work model-bytes o ≡ begun L r log (clean victims) work o
+  begun-same : (o : Option Refusal) → begunWith W r victims work model-bytes o ≡ begun L r log (clean victims) work o
   unfolding begunWith begun laid planOf
   begun-same (some c) = refl
   begun-same none =
-      let n = digestSize L + length model-bytes in
-      let bytes = encodedDigest L (newDigest r victims) ++ model-bytes in
+      let n = digestSize W + length model-bytes in
+      let bytes = encodedDigest W (newDigest r victims) ++ model-bytes in
       let e = sym (head-stores (r .size) (newSlot r) n (newSlot r * r .size, 0) bytes model-length (omega arith)) in
       λ i. record { start = startedWith r (Clean (newSlot r) victims n (e i)) (e i); work = sets work 0 bytes }
 
@@ -125,9 +129,9 @@ module _ (L : Layout) (r : Record) (log : List Placed) (victims : ℕ) (work : L
 -- ---- the promise
 
 module _ (L : Layout) (r : Record) (victims : ℕ) (l : Lengths) (work : List ℕ) where
-  begun-long : (bytes : List ℕ) (o : Option Refusal) → length (begunWith L r victims work bytes o .work) ≡ length work
+  begun-long : (bytes : List ℕ) (o : Option Refusal) → length (begunWith (newLayout r) r victims work bytes o .work) ≡ length work
   unfolding begunWith
-  begun-long bytes none = length-sets work 0 (encodedDigest L (newDigest r victims) ++ bytes)
+  begun-long bytes none = length-sets work 0 (encodedDigest (newLayout r) (newDigest r victims) ++ bytes)
   begun-long bytes (some c) = refl
 
   -- where the victims are bad, the bytes do not matter
@@ -137,7 +141,7 @@ module _ (L : Layout) (r : Record) (victims : ℕ) (l : Lengths) (work : List �
     where
       tests : List ℕ → (t u w : Bool) → Begun
       tests bytes t u w =
-          begunWith L r victims work bytes (pick t (some BadRecord) (pick u (some WorkShort) (pick w (some Busy) (some BadVictims))))
+          begunWith (newLayout r) r victims work bytes (pick t (some BadRecord) (pick u (some WorkShort) (pick w (some Busy) (some BadVictims))))
 
       go : (t u w : Bool) → tests a t u w ≡ tests b t u w
       go true u w = refl
@@ -150,10 +154,10 @@ module _ (L : Layout) (area cells : List ℕ) (r : Record) (victims : ℕ) (work
   lengths = lentLengths area cells work
 
   abbrev code-bytes : List ℕ
-  code-bytes = keptBytes L area cells (marksOf area cells (splitOf r victims)) (splitOf r victims)
+  code-bytes = keptBytes (newLayout r) area cells (marksOf area cells (splitOf r victims)) (splitOf r victims)
 
   abbrev its-bytes : List ℕ
-  its-bytes = allEncoded L (kept victims (logNow area r))
+  its-bytes = allEncoded (newLayout r) (kept victims (logNow area r))
 
   -- the bytes are the model's where the record is in range and the victims are good, and else they do not matter
   same-bytes : Bytes area → Genuine L area r cells → cleanedWith L r victims lengths work code-bytes ≡ cleanedWith L r victims lengths work its-bytes
@@ -162,13 +166,13 @@ module _ (L : Layout) (area cells : List ℕ) (r : Record) (victims : ℕ) (work
     where
       go : (t : Bool) → recordBad L r lengths ≡ t → (v : Bool) → victimsBad r victims ≡ v →
           cleanedWith L r victims lengths work code-bytes ≡ cleanedWith L r victims lengths work its-bytes
-      go true bad v e = ap (begunWith L r victims work code-bytes) (cause-first _ _ bad) ∙ sym (ap (begunWith L r victims work its-bytes) (cause-first _ _ bad))
+      go true bad v e = ap (begunWith (newLayout r) r victims work code-bytes) (cause-first _ _ bad) ∙ sym (ap (begunWith (newLayout r) r victims work its-bytes) (cause-first _ _ bad))
       go false fit true bad = bad-alike L r victims lengths work code-bytes its-bytes bad
       go false fit false good =
           let f = lent L r (length area) (length cells) (not-false (fitsLent L r (length area) (length cells)) fit) in
           ap (cleanedWith L r victims lengths work)
           (bytes-kept area cells r (genuine-indexed L area cells r g) victims (not-false _ (either-false-right (eqb victims 0) (not (within victims (r .map))) good))
-          (omega (arith, f .cells-high, f .index-own)) bytes L)
+          (omega (arith, f .cells-high, f .index-own)) bytes (newLayout r))
 
   pub cleaned-promise : Bytes area → record { start = a; work = work′ } ≡ cleanedWith L r victims lengths work code-bytes →
       StartPromise L freely (clean victims) r area cells work work′ a
@@ -185,7 +189,7 @@ module _ (L : Layout) (area cells : List ℕ) (r : Record) (victims : ℕ) (work
       early :
           (c : Refusal) → firstCause (earlyCauses L r lengths freely (clean victims)) ≡ some c →
           record { start = a; work = work′ } ≡ begun L r [] (clean victims) work (some c)
-      early c bad = e ∙ ap (begunWith L r victims work code-bytes) (first-some (when (recordBad L r lengths) BadRecord ∷ []) _ c bad)
+      early c bad = e ∙ ap (begunWith (newLayout r) r victims work code-bytes) (first-some (when (recordBad L r lengths) BadRecord ∷ []) _ c bad)
 
       exact :
           Genuine L area r cells → record { start = a; work = work′ } ≡

@@ -21,6 +21,7 @@ use Rattle.segment.specs.declared.Digest.{Digest}
 use Rattle.slot_map.specs.Bit.{within}
 use Rattle.record.specs.Range.{fitsLent}
 use Rattle.record.specs.RangeLaws.{Lent, lent}
+use Rattle.record.specs.Switch.{newLayout}
 use Rattle.record.specs.declared.Pending.the-variants.{Clean}
 use Rattle.record.specs.declared.Refusal.{Refusal}
 use Rattle.record.specs.declared.Refusal.the-variants.{BadRecord, BadVictims, KeptTooLong, NumbersSpent}
@@ -83,56 +84,56 @@ module _ (L : Layout) (r : Record) (l : Lengths) (victims : ℕ) {t : Bool} (e :
       unfolding frontCauses
       front-passed h = idle-goes L r l e fits _ idle (skipped _ _ (sym d ∙ h) passed)
 
--- n is the length of what is kept
-module _ (L : Layout) (r : Record) (n : ℕ) where
-  pub kept-long : r .size < digestSize L + n → Check.Refused KeptTooLong ≡ checked (firstCause (keptCauses L r n))
+-- n is the length of what is kept, in the new head's edition W
+module _ (W : Layout) (r : Record) (n : ℕ) where
+  pub kept-long : r .size < digestSize W + n → Check.Refused KeptTooLong ≡ checked (firstCause (keptCauses W r n))
   unfolding keptCauses
-  kept-long h = refused _ _ (lt-ltb (r .size) (digestSize L + n) h)
+  kept-long h = refused _ _ (lt-ltb (r .size) (digestSize W + n) h)
 
-  module _ (fits : digestSize L + n ≤ r .size) where
-    pub kept-spent : r .digest .0 ≡ numberLimit → Check.Refused NumbersSpent ≡ checked (firstCause (keptCauses L r n))
+  module _ (fits : digestSize W + n ≤ r .size) where
+    pub kept-spent : r .digest .0 ≡ numberLimit → Check.Refused NumbersSpent ≡ checked (firstCause (keptCauses W r n))
     unfolding keptCauses
-    kept-spent h = skipped _ _ (le-ltb (r .size) (digestSize L + n) fits) (refused _ _ (eq-eqb (r .digest .0) numberLimit h))
+    kept-spent h = skipped _ _ (le-ltb (r .size) (digestSize W + n) fits) (refused _ _ (eq-eqb (r .digest .0) numberLimit h))
 
-    pub kept-passed : (r .digest .0 ≡ numberLimit → ⊥) → Check.Passed ≡ checked (firstCause (keptCauses L r n))
+    pub kept-passed : (r .digest .0 ≡ numberLimit → ⊥) → Check.Passed ≡ checked (firstCause (keptCauses W r n))
     unfolding keptCauses
-    kept-passed h = skipped _ _ (le-ltb (r .size) (digestSize L + n) fits) (skipped _ _ (ne-eqb (r .digest .0) numberLimit h) passed)
+    kept-passed h = skipped _ _ (le-ltb (r .size) (digestSize W + n) fits) (skipped _ _ (ne-eqb (r .digest .0) numberLimit h) passed)
 
   -- what is known once they are passed
   pub record KeptPassed : Type 0 where
-    pub fits : digestSize L + n ≤ r .size
+    pub fits : digestSize W + n ≤ r .size
     pub number-left : NumberLeft r
 
-  pub passed-kept : Check.Passed ≡ checked (firstCause (keptCauses L r n)) → KeptPassed
+  pub passed-kept : Check.Passed ≡ checked (firstCause (keptCauses W r n)) → KeptPassed
   unfolding keptCauses
   passed-kept e =
-      let c = checked-none (firstCause (keptCauses L r n)) e in
+      let c = checked-none (firstCause (keptCauses W r n)) e in
       record {
-        fits = ltb-false (r .size) (digestSize L + n) (cause-false _ _ c);
+        fits = ltb-false (r .size) (digestSize W + n) (cause-false _ _ c);
         number-left = eqb-false (r .digest .0) numberLimit (cause-false _ _ (cause-rest _ _ c));
       }
 
 -- ---- a cleaning once the cells are marked: n is what the code measures
 
-module _ (L : Layout) (r : Record) (victims : ℕ) (work bytes : List ℕ) (n : ℕ) (m : n ≡ length bytes) where
-  here : (a : Check) → a ≡ checked (firstCause (keptCauses L r n)) → a ≡ checked (firstCause (keptCauses L r (length bytes)))
-  here a e = e ∙ ap (λ (k : ℕ). checked (firstCause (keptCauses L r k))) m
+module _ (W : Layout) (r : Record) (victims : ℕ) (work bytes : List ℕ) (n : ℕ) (m : n ≡ length bytes) where
+  here : (a : Check) → a ≡ checked (firstCause (keptCauses W r n)) → a ≡ checked (firstCause (keptCauses W r (length bytes)))
+  here a e = e ∙ ap (λ (k : ℕ). checked (firstCause (keptCauses W r k))) m
 
-  pub marked-refused : (c : Refusal) → Check.Refused c ≡ checked (firstCause (keptCauses L r n)) → (a : Start) → a ≡ refusedStart r c →
-      record { start = a; work = work } ≡ markedWith L r victims work bytes
+  pub marked-refused : (c : Refusal) → Check.Refused c ≡ checked (firstCause (keptCauses W r n)) → (a : Start) → a ≡ refusedStart r c →
+      record { start = a; work = work } ≡ markedWith W r victims work bytes
   unfolding begunWith markedWith
   marked-refused c e a is =
       ap (λ (s : Start). record { start = s; work = work }) is
-      ∙ ap (begunWith L r victims work bytes) (sym (checked-some _ c (here (Check.Refused c) e)))
+      ∙ ap (begunWith W r victims work bytes) (sym (checked-some _ c (here (Check.Refused c) e)))
 
-  pub marked-begun : {b : Begun} → Check.Passed ≡ checked (firstCause (keptCauses L r n)) → b ≡ begunWith L r victims work bytes none →
-      b ≡ markedWith L r victims work bytes
+  pub marked-begun : {b : Begun} → Check.Passed ≡ checked (firstCause (keptCauses W r n)) → b ≡ begunWith W r victims work bytes none →
+      b ≡ markedWith W r victims work bytes
   unfolding markedWith
-  marked-begun e h = h ∙ ap (begunWith L r victims work bytes) (sym (checked-none _ (here Check.Passed e)))
+  marked-begun e h = h ∙ ap (begunWith W r victims work bytes) (sym (checked-none _ (here Check.Passed e)))
 
 -- what the code may rely on then: what is chosen is what is kept
-module _ {L : Layout} {r : Record} {victims : ℕ} {split : Split} {area marks work : List ℕ} (f : CleanFits L r victims split area marks work)
-    (cells : List ℕ) (n : ℕ) (m : n ≡ length (keptBytes L area cells marks split)) (e : Check.Passed ≡ checked (firstCause (keptCauses L r n))) where
+module _ (W : Layout) {L : Layout} {r : Record} {victims : ℕ} {split : Split} {area marks work : List ℕ} (f : CleanFits L r victims split area marks work)
+    (cells : List ℕ) (n : ℕ) (m : n ≡ length (keptBytes W area cells marks split)) (e : Check.Passed ≡ checked (firstCause (keptCauses W r n))) where
   pub ready : CleanReady L r victims
   ready =
       record {
@@ -140,14 +141,14 @@ module _ {L : Layout} {r : Record} {victims : ℕ} {split : Split} {area marks w
         indexLength = f .indexLength;
         lent = f .lent;
         all-named = f .all-named;
-        number-left = passed-kept L r n e .number-left;
+        number-left = passed-kept W r n e .number-left;
       }
 
-  pub room : (chosen : List ℕ) → length chosen ≡ 256 → chosenBytes L area chosen split ≡ keptBytes L area cells marks split → Room L r split area chosen work
+  pub room : (chosen : List ℕ) → length chosen ≡ 256 → chosenBytes W area chosen split ≡ keptBytes W area cells marks split → Room W r split area chosen work
   room chosen long same =
       record {
         shape = record { slots = f .shape .slots; chosen-long = long };
-        fits = omega (arith, passed-kept L r n e .fits, m, ap length same);
+        fits = omega (arith, passed-kept W r n e .fits, m, ap length same);
         long = f .long;
       }
 
@@ -183,9 +184,9 @@ module _ (L : Layout) (area cells : List ℕ) (r : Record) (victims : ℕ) (work
   front-refused bytes c e a is =
       cleaned-promise L area cells r victims work work a bytes
       (ap (λ (s : Start). record { start = s; work = work }) is
-      ∙ ap (begunWith L r victims work (keptBytes L area cells (marksOf area cells (splitOf r victims)) (splitOf r victims)))
+      ∙ ap (begunWith (newLayout r) r victims work (keptBytes (newLayout r) area cells (marksOf area cells (splitOf r victims)) (splitOf r victims)))
       (sym
-      (first-some front (keptCauses L r (length (keptBytes L area cells (marksOf area cells (splitOf r victims)) (splitOf r victims)))) c
+      (first-some front (keptCauses (newLayout r) r (length (keptBytes (newLayout r) area cells (marksOf area cells (splitOf r victims)) (splitOf r victims)))) c
       (checked-some (firstCause front) c e))))
 
   module _ (e : Check.Passed ≡ checked (firstCause front)) where
@@ -208,38 +209,40 @@ module _ (L : Layout) (area cells : List ℕ) (r : Record) (victims : ℕ) (work
         }
 
     pub marked-promise : Bytes area → (marks : List ℕ) (split : Split) → split ≡ splitOf r victims → marks ≡ siftNeeded area cells split (replicate 128 0) →
-        (work′ : List ℕ) (a : Start) → record { start = a; work = work′ } ≡ markedWith L r victims work (keptBytes L area cells marks split) →
+        (W : Layout) → W ≡ newLayout r → (work′ : List ℕ) (a : Start) →
+        record { start = a; work = work′ } ≡ markedWith W r victims work (keptBytes W area cells marks split) →
         StartPromise L freely (clean victims) r area cells work work′ a
     unfolding causesWith frontCauses keptCauses idleCauses markedWith
-    marked-promise bytes marks split is its work′ a h =
+    marked-promise bytes marks split is its W new work′ a h =
         cleaned-promise L area cells r victims work work′ a bytes
         (h
-        ∙ ap (λ (l : List ℕ). markedWith L r victims work (keptBytes L area cells l split)) its
-        ∙ ap (markedWith L r victims work) (needed-bytes area cells split L)
-        ∙ ap (λ (s : Split). markedWith L r victims work (keptBytes L area cells (marksOf area cells s) s)) is
-        ∙ ap (begunWith L r victims work (keptBytes L area cells (marksOf area cells (splitOf r victims)) (splitOf r victims)))
+        ∙ ap (λ (K : Layout). markedWith K r victims work (keptBytes K area cells marks split)) new
+        ∙ ap (λ (l : List ℕ). markedWith (newLayout r) r victims work (keptBytes (newLayout r) area cells l split)) its
+        ∙ ap (markedWith (newLayout r) r victims work) (needed-bytes area cells split (newLayout r))
+        ∙ ap (λ (s : Split). markedWith (newLayout r) r victims work (keptBytes (newLayout r) area cells (marksOf area cells s) s)) is
+        ∙ ap (begunWith (newLayout r) r victims work (keptBytes (newLayout r) area cells (marksOf area cells (splitOf r victims)) (splitOf r victims)))
         (sym
-        (first-none front (keptCauses L r (length (keptBytes L area cells (marksOf area cells (splitOf r victims)) (splitOf r victims))))
+        (first-none front (keptCauses (newLayout r) r (length (keptBytes (newLayout r) area cells (marksOf area cells (splitOf r victims)) (splitOf r victims))))
         (checked-none (firstCause front) e))))
 
 -- ---- the work buffer filled and the answer
 
-module _ (L : Layout) (r : Record) (victims : ℕ) (work bytes : List ℕ) where
+module _ (W : Layout) (r : Record) (victims : ℕ) (work bytes : List ℕ) where
   pub begun-filled : (d : Digest) (work₁ work₂ : List ℕ) (n slot left : ℕ) (a : Start) → d ≡ newDigest r victims →
-      work₁ ≡ sets work 0 (encodedDigest L d) → Copied bytes work₁ (digestSize L) work₂ n → slot ≡ newSlot r → left ≡ headStores (r .size) n →
-      a ≡ startedWith r (Clean slot victims n left) left → record { start = a; work = work₂ } ≡ begunWith L r victims work bytes none
+      work₁ ≡ sets work 0 (encodedDigest W d) → Copied bytes work₁ (digestSize W) work₂ n → slot ≡ newSlot r → left ≡ headStores (r .size) n →
+      a ≡ startedWith r (Clean slot victims n left) left → record { start = a; work = work₂ } ≡ begunWith W r victims work bytes none
   unfolding begunWith
   begun-filled d work₁ work₂ n slot left a de e₁ p s t is = λ i. record { start = start i; work = filled i }
     where
-      start : a ≡ cleaningWith r victims (newSlot r) (digestSize L + length bytes)
+      start : a ≡ cleaningWith r victims (newSlot r) (digestSize W + length bytes)
       start = is ∙ (λ i. startedWith r (Clean slot victims n (t i)) (t i)) ∙ λ i. cleaningWith r victims (s i) (p .behind i)
 
-      front : work₁ ≡ sets work 0 (encodedDigest L (newDigest r victims))
-      front = e₁ ∙ ap (λ (x : Digest). sets work 0 (encodedDigest L x)) de
+      front : work₁ ≡ sets work 0 (encodedDigest W (newDigest r victims))
+      front = e₁ ∙ ap (λ (x : Digest). sets work 0 (encodedDigest W x)) de
 
-      filled : work₂ ≡ sets work 0 (encodedDigest L (newDigest r victims) ++ bytes)
+      filled : work₂ ≡ sets work 0 (encodedDigest W (newDigest r victims) ++ bytes)
       filled =
           p .stored
-          ∙ ap (λ (w : List ℕ). sets w (digestSize L) bytes) front
-          ∙ ap (λ (k : ℕ). sets (sets work 0 (encodedDigest L (newDigest r victims))) k bytes) (sym (zero-add _ ∙ length-encodedDigest L (newDigest r victims)))
-          ∙ sym (sets-append work 0 (encodedDigest L (newDigest r victims)) bytes)
+          ∙ ap (λ (w : List ℕ). sets w (digestSize W) bytes) front
+          ∙ ap (λ (k : ℕ). sets (sets work 0 (encodedDigest W (newDigest r victims))) k bytes) (sym (zero-add _ ∙ length-encodedDigest W (newDigest r victims)))
+          ∙ sym (sets-append work 0 (encodedDigest W (newDigest r victims)) bytes)

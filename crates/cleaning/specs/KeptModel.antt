@@ -22,8 +22,7 @@ use Rattle.segment.specs.Rewritten.{entry-own, bytes-around}
 use Rattle.segment.specs.declared.Key.{Key}
 use Rattle.slot_map.specs.Bit.{named, within, less}
 use Rattle.slot_map.specs.BitLaws.{bit-le, within-le, named-true, set-named}
-use Rattle.record.specs.Answers.{withPending}
-use Rattle.record.specs.declared.Pending.the-variants.{Idle}
+use Rattle.record.specs.Switch.{asRecovered}
 use Rattle.record.specs.declared.Record.{Record}
 use Rattle.model.specs.Log.{View, Item, Placed, placeOf, placedSize, segmentOf, viewsOf, itemsOf, placedIn, logOf, sameKeys, sameKey, latest, versionShared}
 use Rattle.model.specs.Index.{HasCell, IndexRule}
@@ -103,11 +102,11 @@ pub record Indexed (area : List ℕ) (r : Record) (cells : List ℕ) : Type 0 wh
 pub genuine-indexed : (L : Layout) (area cells : List ℕ) (r : Record) → Genuine L area r cells → Indexed area r cells
 genuine-indexed L area cells r g =
     record {
-      long = recovered-lent L (r .slots) (r .size) (r .cells) area (withPending r Idle) (g .recovers) .long;
+      long = recovered-lent L (r .slots) (r .size) (r .cells) area (asRecovered r) (g .recovers) .long;
       scans =
           recovered-case L (r .slots) (r .size) (r .cells) area (λ (k : Record). AllScanned (viewsOf area (r .size)) (named (k .map)) (r .slots)) (λ h l f. f .scans)
-          (withPending r Idle) (g .recovers);
-      versions = recovered-versions L (r .slots) (r .size) (r .cells) area (withPending r Idle) (g .recovers);
+          (asRecovered r) (g .recovers);
+      versions = recovered-versions L (r .slots) (r .size) (r .cells) area (asRecovered r) (g .recovers);
       rule = g .rule;
     }
 

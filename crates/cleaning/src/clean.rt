@@ -7,7 +7,9 @@ use record::Pending;
 use record::Record;
 use record::Refusal;
 use record::Start;
+use record::new_edition;
 use record::range::fits_lent;
+use segment::Edition;
 use segment::layout::NUMBER_LIMIT;
 use segment::layout::digest_size;
 use segment::writer::write_digest;
@@ -73,13 +75,12 @@ fn check_victims(rec: Record, area: usize, index: usize, work: usize, victims: u
     }
 }
 
-// The last tests, for so many bytes kept: 14, 10.
-fn check_kept(rec: Record, count: usize) -> Check
+// The last tests, for so many bytes kept in the edition of the new head: 14, 10.
+fn check_kept(rec: Record, into: Edition, count: usize) -> Check
     requires { ⌜ count ≤ 131072 ⌝ }
-    ensures { λ r. ⌜ r ≡ checked (firstCause (keptCauses (rec .edition) rec count)) ⌝ }
+    ensures { λ r. ⌜ r ≡ checked (firstCause (keptCauses into rec count)) ⌝ }
 {
-    let edition = rec.edition;
-    let length = digest_size(edition) + count;
+    let length = digest_size(into) + count;
     if (rec.size as usize) < length {
         return Check::Refused(Refusal::KeptTooLong);
     }
@@ -90,9 +91,10 @@ fn check_kept(rec: Record, count: usize) -> Check
     Check::Passed
 }
 
-// The new head's bytes go to the work buffer, and the cleaning is pending.
+// The new head's bytes, in its edition, go to the work buffer, and the cleaning is pending.
 fn begin(
     rec: Record,
+    into: Edition,
     area: &[u8],
     chosen: &[u32],
     work: &mut [u8],
@@ -100,18 +102,17 @@ fn begin(
     split: Split,
 ) -> Start
     requires { ⌜ CleanReady (rec .edition) rec victims ⌝ }
-    requires { ⌜ Room (rec .edition) rec split (now area) (now chosen) (now work) ⌝ }
+    requires { ⌜ Room into rec split (now area) (now chosen) (now work) ⌝ }
     ensures { λ r.
         ⌜
         record { start = r; work = now (work .exit) }
-        ≡ begunWith (rec .edition) rec victims (now (work .entry)) (chosenBytes (rec .edition) (now (area .entry)) (now (chosen .entry)) split) none
+        ≡ begunWith into rec victims (now (work .entry)) (chosenBytes into (now (area .entry)) (now (chosen .entry)) split) none
         ⌝ }
 {
-    let edition = rec.edition;
     let next = rec.next;
     let slot = next_free(rec.slots, rec.map, rec.head);
-    write_digest(edition, work, 0, new_digest(rec, victims, slot, next));
-    let count = copy_kept(edition, area, chosen, split, work, digest_size(edition));
+    write_digest(into, work, 0, new_digest(rec, victims, slot, next));
+    let count = copy_kept(into, area, chosen, split, work, digest_size(into));
     let left = head_stores(rec.size as usize, count) as u32;
     let length = count as u32;
     let pending = Pending::Clean {
@@ -123,9 +124,11 @@ fn begin(
     started(rec, pending, left)
 }
 
-// A cleaning once the cells are marked. What is kept is measured and chosen before a byte of the work buffer changes.
+// A cleaning into a new head of an edition, once the cells are marked. What is kept is measured and chosen before a byte of the work
+// buffer changes.
 fn clean_marked(
     rec: Record,
+    into: Edition,
     area: &[u8],
     index: &[u32],
     marks: &[u32],
@@ -137,16 +140,15 @@ fn clean_marked(
     ensures { λ r.
         ⌜
         record { start = r; work = now (work .exit) }
-        ≡ markedWith (rec .edition) rec victims (now (work .entry))
-        (keptBytes (rec .edition) (now (area .entry)) (now (index .entry)) (now (marks .entry)) split)
+        ≡ markedWith into rec victims (now (work .entry))
+        (keptBytes into (now (area .entry)) (now (index .entry)) (now (marks .entry)) split)
         ⌝ }
 {
-    let edition = rec.edition;
     let mut chosen = [0u32; 256];
-    let count = measure(edition, area, index, marks, &mut chosen, split);
-    match check_kept(rec, count) {
+    let count = measure(into, area, index, marks, &mut chosen, split);
+    match check_kept(rec, into, count) {
         Check::Refused(c) => refused(rec, c),
-        Check::Passed => begin(rec, area, &chosen, work, victims, split),
+        Check::Passed => begin(rec, into, area, &chosen, work, victims, split),
     }
 }
 
@@ -163,7 +165,8 @@ pub fn clean(rec: Record, area: &[u8], index: &[u32], work: &mut [u8], victims: 
             let split = split_of(rec, victims);
             let mut marks = [0u32; 128];
             mark_needed(area, index, &mut marks, split);
-            clean_marked(rec, area, index, &marks, work, victims, split)
+            let into = new_edition(rec);
+            clean_marked(rec, into, area, index, &marks, work, victims, split)
         }
     }
 }

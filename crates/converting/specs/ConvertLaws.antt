@@ -17,7 +17,7 @@ use Rattle.record.specs.declared.Refusal.{Refusal}
 use Rattle.record.specs.declared.Refusal.the-variants.{Geometry, SlotTooLong, VersionTooWide}
 use Rattle.model.specs.Log.{View, Head, viewsOf, headOf, logOf, highest}
 use Rattle.model.specs.Causes.{Cause, when, firstCause}
-use Rattle.model.specs.Recovery.{geometryBad, headElse, logSlots, namesNoDigest, imageLayout, imageCauses}
+use Rattle.model.specs.Recovery.{geometryBad, headElse, logSlots, namesNoDigest, imageLayout}
 use Rattle.model.specs.Conversion.{slotTooLong, slotTooWide, convertedSlots, convertedImage, targetLayout, imageSlots, fitCauses, convertCauses, convertAnswer, ConvertPromise}
 use Rattle.model.specs.Promises.{areaUnless}
 use Rattle.laws.specs.CauseLaws.{cause-first, cause-skip, first-some, first-none}
@@ -25,7 +25,7 @@ use Rattle.laws.specs.Passed.{image-passed}
 use Rattle.laws.specs.LogLaws.{names-digests}
 use Rattle.log.specs.Shape.{Shape}
 use Rattle.recovery.specs.FormatLaws.{geometry-fits}
-use Rattle.recovery.specs.Recovering.{imageFor, imageOf}
+use Rattle.recovery.specs.Recovering.{imageChecks, imageFor, imageOf}
 use Rattle.recovery.specs.RecoverPromises.{SoundImage, sound-image, image-editions, image-scans}
 use Rattle.recovery.specs.declared.Image.{Image}
 use Rattle.converting.specs.Parts.{LogOf}
@@ -98,7 +98,7 @@ module _ (n s : ℕ) (source target : List ℕ) where
   causes = convertCauses n s source (length target)
 
   abbrev image : List Cause
-  image = imageCauses (imageLayout n s source) v n (headOf v n)
+  image = imageChecks true (imageLayout n s source) v n (headOf v n)
 
   abbrev fits : List Cause
   fits = fitCauses (targetLayout n s source) v (imageSlots n s source) s n
@@ -131,7 +131,7 @@ module _ (n s : ℕ) (source target : List ℕ) where
     past-geometry : firstCause causes ≡ firstCause (image ++ fits)
     past-geometry = cause-skip geometry (image ++ fits) (either-false (geometryBad n s (length source)) (geometryBad n s (length target)) g h)
 
-    pub convert-refused : (c : Refusal) → imageOf v n ≡ Image.Refused c → ConvertPromise n s source target target (ConvertAnswer.Refused c)
+    pub convert-refused : (c : Refusal) → imageOf true v n ≡ Image.Refused c → ConvertPromise n s source target target (ConvertAnswer.Refused c)
     unfolding imageFor
     convert-refused c e = turned-away c (go (firstCause image) refl e)
       where
@@ -139,9 +139,9 @@ module _ (n s : ℕ) (source target : List ℕ) where
         go none p q = let z : _≡_ {A = ℕ} 0 1 = cc in absurd (omega arith)
         go (some b) p q = let same : b ≡ c = cc in past-geometry ∙ first-some image fits c (p ∙ ap some same)
 
-    module _ (L : Layout) (i : ℕ) (d : Digest) (top : Version) (sound : imageOf v n ≡ Image.Sound L i d top) where
-      one : SoundImage L v n i d top
-      one = sound-image L v n i d top sound
+    module _ (L : Layout) (i : ℕ) (d : Digest) (top : Version) (sound : imageOf true v n ≡ Image.Sound L i d top) where
+      one : SoundImage true L v n i d top
+      one = sound-image true L v n i d top sound
 
       pub sound-log : LogOf L v (named (d .map)) n
       sound-log =
@@ -149,8 +149,8 @@ module _ (n s : ℕ) (source target : List ℕ) where
             editions = image-editions L v n i d top one;
             digests =
                 names-digests v (named (d .map)) n
-                (subst (λ (x : Head). namesNoDigest v (logSlots x) n ≡ false) (one .head) (image-passed L v n (headOf v n) (one .clear) .all-digests));
-            scans = image-scans L v n i d top one;
+                (subst (λ (x : Head). namesNoDigest v (logSlots x) n ≡ false) (one .head) (image-passed _ v n (headOf v n) (one .clear) .all-digests));
+            scans = image-scans true L v n i d top one;
           }
 
       pub sound-top : top .0 ≡ highest (logOf v (named (d .map)) n)
@@ -163,7 +163,7 @@ module _ (n s : ℕ) (source target : List ℕ) where
           slots = ap logSlots (one .head)
 
           clear : firstCause image ≡ none
-          clear = subst (λ (M : Layout). firstCause (imageCauses M v n (headOf v n)) ≡ none) (sym (one .edition)) (one .clear)
+          clear = subst (λ (M : Layout). firstCause (imageChecks true M v n (headOf v n)) ≡ none) (sym (one .edition)) (one .clear)
 
           first-is : firstCause causes ≡ firstCause (fitCauses (otherLayout L) v (named (d .map)) s n)
           first-is =

@@ -56,7 +56,7 @@ pub fn convert(n: u32, s: u32, source: &[u8], target: &mut [u8]) -> ConvertAnswe
     if geometry_bad(n, s, target.len()) {
         return ConvertAnswer::Refused(Refusal::Geometry);
     }
-    match look_at(n as usize, s as usize, source) {
+    match look_at(true, n as usize, s as usize, source) {
         Image::Refused(cause) => ConvertAnswer::Refused(cause),
         Image::Sound {
             edition,

@@ -9,8 +9,9 @@ use lib.ListN.{length, take, drop}
 use Rattle.segment.specs.Choice.{pick, pick-false}
 use Rattle.segment.specs.declared.Key.{Key}
 use Rattle.record.specs.Answers.{Said, refusal, taken, takenWith, recoverSaid, readSaid, startSaid, stepSaid, tellSaid, fewestSaid, convertSaid}
-use Rattle.record.specs.Range.{fitsLent}
-use Rattle.record.specs.RangeLaws.{blank-unfit}
+use Rattle.record.specs.Range.{fitsLent, inRange}
+use Rattle.record.specs.RangeLaws.{blank-unfit, blank-out}
+use Rattle.record.specs.Switch.{switchSaid}
 use Rattle.record.specs.Refusals.{numberOfRefusal}
 use Rattle.record.specs.declared.Record.{Record}
 use Rattle.record.specs.declared.ReadAnswer.{ReadAnswer}
@@ -22,11 +23,14 @@ use Rattle.record.specs.declared.StartAnswer.{StartAnswer}
 use Rattle.record.specs.declared.Stepped.{Stepped}
 use Rattle.record.specs.declared.StepAnswer.{StepAnswer}
 use Rattle.record.specs.declared.FewestAnswer.{FewestAnswer}
+use Rattle.record.specs.declared.SwitchAnswer.{SwitchAnswer}
+use Rattle.record.specs.declared.Switching.{Switching}
 use Rattle.record.specs.declared.TellAnswer.{TellAnswer}
 use Rattle.model.specs.Arguments.{typed-key, typed-write, typed-delete, typed-clean}
 use Rattle.model.specs.Operations.{Operation, write, delete, clean, Typed}
 use Rattle.record.specs.declared.Tables.{Tables}
 use Rattle.model.specs.Fewest.{noLengths}
+use Rattle.model.specs.Switching.{switching}
 use Rattle.model.specs.Refused.{Terms, isPending}
 use Rattle.laws.specs.Starts.{early-bad}
 use Rattle.model.specs.Promises.{Begun, begun, readLengths, lentLengths, tellLengths}
@@ -35,12 +39,12 @@ use Rattle.laws.specs.CauseLaws.{cause-first, refusal-number}
 use Rattle.words.specs.Words.{recordWords, isRecord, decoded}
 use Rattle.words.specs.WordLaws.{record-long, decoded-record, decoded-none, decode-encode}
 use Rattle.words.specs.declared.Decoded.{Decoded}
-use Rattle.history.specs.Book.{reads, readsValue, tells, fewest, starts, steps, asks, recovers, Answer, saying, giving, telling, naming, Event, called, scans, scansValue, converts, joins, pairing}
+use Rattle.history.specs.Book.{reads, readsValue, tells, fewest, starts, steps, switches, asks, recovers, Answer, saying, giving, telling, naming, Event, called, scans, scansValue, converts, joins, pairing}
 use Rattle.history.specs.Runs as Store
 use Rattle.history.specs.Runs.{World, recoveredWorld, Run}
-use Rattle.kurdavel.specs.Crossing.{keptWords, wordsAfter, RecoverCrossed, ReadCrossed, ValueCrossed, storesAfter, StartCrossed, leftTold, toldAfter, StepCrossed, placeTold, byteTold, TellCrossed, FewestCrossed, ScanCrossed, ScanValueCrossed, ConvertCrossed}
+use Rattle.kurdavel.specs.Crossing.{keptWords, wordsAfter, RecoverCrossed, ReadCrossed, ValueCrossed, storesAfter, StartCrossed, leftTold, toldAfter, StepCrossed, placeTold, byteTold, TellCrossed, FewestCrossed, ScanCrossed, ScanValueCrossed, ConvertCrossed, SwitchCrossed}
 use Rattle.kurdavel.specs.Crossing as Crossing
-use Rattle.exported.specs.Runs.{HeldWords, Memory, heldBy, worldOf, KeyArgument, Arguments, numberSaid, stepTold, readTold, storeTold, slotTold, recoveredMemory, Exports, start, step, read, readValue, tell, least, recover, short, cuts, ExportedRun, stop, go, scan, scanValue, convert, join}
+use Rattle.exported.specs.Runs.{HeldWords, Memory, heldBy, worldOf, KeyArgument, Arguments, numberSaid, stepTold, readTold, storeTold, slotTold, recoveredMemory, Exports, start, step, read, readValue, tell, least, recover, short, cuts, ExportedRun, stop, go, scan, scanValue, convert, join, switch}
 use Rattle.kurdavel.specs.Joining.{JoinCrossed}
 
 -- ---- arguments: whatever has its C type is typed
@@ -104,6 +108,10 @@ slot-told (FewestAnswer.Refused c) slot number e f =
     sym (pick-false (eqb (numberOfRefusal c) 0) (record { said = taken; value = slot ∷ []; place = 0 }) (saying (refusal (numberOfRefusal c))) (refusal-number c)) ∙
     ap (λ (k : ℕ). slotTold k slot) (sym e)
 
+switch-said : (a : SwitchAnswer) (number : ℕ) → number ≡ switchSaid a .refused → switchSaid a ≡ numberSaid number taken
+switch-said SwitchAnswer.Switched number e = taken-said number taken e
+switch-said (SwitchAnswer.Refused c) number e = refused-said c number taken e
+
 convert-said : (a : ConvertAnswer) (number : ℕ) → number ≡ convertSaid a .refused → convertSaid a ≡ numberSaid number taken
 convert-said ConvertAnswer.Converted number e = taken-said number taken e
 convert-said (ConvertAnswer.Refused c) number e = refused-said c number taken e
@@ -127,6 +135,10 @@ by-record words T yes-case no-case = go (isRecord words) refl
 none-unfit : (words : List ℕ) → isRecord words ≡ false → (a i : ℕ) → not (fitsLent (decoded words .rec .edition) (decoded words .rec) a i) ≡ true
 none-unfit words e a i =
     ap (λ (d : Decoded). not (fitsLent (d .rec .edition) (d .rec) a i)) (decoded-none words e) ∙ ap not (blank-unfit _ a i)
+
+-- which the switch refuses by its range alone
+none-out : (words : List ℕ) → isRecord words ≡ false → not (inRange (decoded words .rec .edition) (decoded words .rec)) ≡ true
+none-out words e = ap (λ (d : Decoded). not (inRange (d .rec .edition) (d .rec))) (decoded-none words e) ∙ ap not (blank-out _)
 
 pub words-say :
     (words words′ : List ℕ) (r : Record) → words′ ≡ keptWords (decoded words .ok) words r → (decoded words .ok ≡ true → length (r .counts) ≡ 32) →
@@ -202,6 +214,31 @@ module _ (n s : ℕ) where
       says =
           words-say (h .words) words′ (c .stepped .rec) (c .says) (c .long)
           (λ e. ap (λ (a : Stepped). a .rec) (c .promised .refused BadRecord (cause-first _ _ (none-unfit (h .words) e _ _)) .answers))
+
+  switch-runs :
+      (area words′ : List ℕ) (h : HeldWords) (m : Option ℕ) (number : ℕ) → SwitchCrossed (h .words) words′ number →
+      Runs (worldOf (record { area = area; held = some h; cells = m })) (called switches noLengths (saying (numberSaid number taken)) ∷ [])
+      (worldOf (record { area = area; held = some (record { words = words′; cells = h .cells; work = h .work }); cells = m }))
+  unfolding switching
+  switch-runs area words′ h m number c =
+      subst
+      (λ (r : Record).
+      Runs (worldOf (record { area = area; held = some h; cells = m })) (called switches noLengths (saying (numberSaid number taken)) ∷ [])
+      (record { area = area; held = some (record { rec = r; cells = h .cells; work = h .work }); cells = m }))
+      (sym says)
+      (subst
+      (λ (a : Said).
+      Runs (worldOf (record { area = area; held = some h; cells = m })) (called switches noLengths (saying a) ∷ [])
+      (record { area = area; held = some (record { rec = c .switching .rec; cells = h .cells; work = h .work }); cells = m }))
+      (switch-said (c .switching .answer) number (c .numbered))
+      (Store.go (Store.switch {h = heldBy h} (c .promised)) Store.stop))
+    where
+      says : decoded words′ .rec ≡ c .switching .rec
+      says =
+          words-say (h .words) words′ (c .switching .rec) (c .says) (c .long)
+          (λ e.
+          ap (λ (a : Switching). a .rec)
+          (c .promised .answers ∙ ap (λ (x : Option Refusal). switching x (decoded (h .words) .rec)) (cause-first _ _ (none-out (h .words) e))))
 
   read-runs :
       (area : List ℕ) (h : HeldWords) (m : Option ℕ) (v : Tables) (k : Key) (version kind number : ℕ) → KeyArgument k →
@@ -348,6 +385,7 @@ module _ (n s : ℕ) where
       start-runs area work work′ words′ h m t o stores stores′ number p c
   exports-run (step {area} {area′} {cells′} {work} {words′} {h} {m} {left} {left′} {version} {version′} {number} own c) =
       step-runs area area′ cells′ work words′ h m left left′ version version′ number own c
+  exports-run (switch {area} {words′} {h} {m} {number} c) = switch-runs area words′ h m number c
   exports-run (read {area} {h} {m} {v} {k} {version} {kind} {number} p c) =
       read-runs area h m v k version kind number p c
   exports-run (readValue {area} {h} {m} {v} {k} {place} {bytes} {number} p c) = value-runs area h m v k place bytes number p c

@@ -4,6 +4,7 @@ use native.Mathlib.Omega.{arith}
 use mathlib.Core.Path.{_≡_, refl, sym, ap, _∙_, subst}
 use mathlib.Core.Bool.{Bool, true, false}
 use mathlib.Core.List.{List}
+use mathlib.Core.Option.{Option, none, some}
 use lib.ListN.{length}
 use borrow.Author.Tests.{eq-eqb}
 use Rattle.segment.specs.Layout.{Layout, numberOfLayout}
@@ -23,7 +24,8 @@ use Rattle.laws.specs.CauseLaws.{refusal-number}
 use Rattle.words.specs.Words.{recordWords, decoded}
 use Rattle.words.specs.WordLaws.{decode-encode}
 use Rattle.words.specs.declared.Decoded.{Decoded}
-use Rattle.history.specs.Book.{Book, bookOf}
+use Rattle.history.specs.Book.{Kept, Book, bookOf}
+use Rattle.history.specs.Editions.{Editions, Among, formattedIn, editionsBehind}
 use Rattle.history.specs.Demand3.{bookAnswer, GivesBook, Demand3Of}
 use Rattle.history.proofs.Theorem.{demand-3}
 use Rattle.kurdavel.specs.Crossing.{wordsAfter, FormatCrossed, Recovers}
@@ -44,9 +46,15 @@ pub format-promised :
 format-promised L n s area₀ area f =
     subst (λ (a : FormatAnswer). FormatPromise (numberOfLayout L) n s area₀ area a) (format-accepted (f .answer) (f .numbered)) (f .promised)
 
+-- whether a key is absent does not go by an edition
+same-number : (K L : Layout) (x : Option Kept) → readSaid (bookAnswer K x) .refused ≡ readSaid (bookAnswer L x) .refused
+unfolding bookAnswer
+same-number K L none = refl
+same-number K L (some x) = refl
+
 -- what a recovery of the store gives, it gives through words
-module _ (L : Layout) (n s : ℕ) (order area cells cells′ words words′ : List ℕ) (number : ℕ) (b : Book) (long : recordWords ≤ length words)
-    (x : Recovers n s order area cells cells′ words words′ number) (given : GivesBook L area cells′ (x .recovery) b)
+module _ (E : Editions) (n s : ℕ) (order area cells cells′ words words′ : List ℕ) (number : ℕ) (b : Book) (long : recordWords ≤ length words)
+    (x : Recovers n s order area cells cells′ words words′ number) (given : GivesBook E area cells′ (x .recovery) b)
   where
     says : decoded words′ .rec ≡ x .recovery .rec
     unfolding wordsAfter
@@ -56,22 +64,30 @@ module _ (L : Layout) (n s : ℕ) (order area cells cells′ words words′ : Li
 
     answered :
         (t : Tables) (k : Key) → KeyArgument k → holdsTable t (k .table) ≡ true → (a : Reading) →
-        ReadPromise (decoded words′ .rec .edition) (decoded words′ .rec) area cells′ t k a → a .answer ≡ bookAnswer L (b .keys k)
+        ReadPromise (decoded words′ .rec .edition) (decoded words′ .rec) area cells′ t k a →
+        (K : Layout) × Among E K × (a .answer ≡ bookAnswer K (b .keys k))
     answered t k p held a q =
         given .answers t k (typed-key k (p .0) (p .1)) held a (subst (λ (r : Record). ReadPromise (r .edition) r area cells′ t k a) says q)
 
-    words-give : WordsGiveBook L area cells′ words′ number b
+    words-give : WordsGiveBook E area cells′ words′ number b
     words-give =
         record {
           is-accepted = x .numbered ∙ ap (λ (a : RecoverAnswer). recoverSaid a .refused) (given .is-accepted);
+          own-edition = subst (λ (r : Record). Among E (r .edition)) (sym says) (given .own-edition);
+          not-switched = ap (λ (r : Record). r .switched) says ∙ given .not-switched;
           next-version = ap (λ (r : Record). r .next .0) says ∙ given .next-version;
           answers =
               λ t k p held version kind told c.
-              sym (read-said (c .reading .answer) version kind told (c .numbered) (c .version-told) (c .kind-told)) ∙
-              ap (λ (a : ReadAnswer). readSaid a) (answered t k p held (c .reading) (c .promised));
+              let x = answered t k p held (c .reading) (c .promised) in (
+                x .0,
+                x .1,
+                sym (read-said (c .reading .answer) version kind told (c .numbered) (c .version-told) (c .kind-told))
+                    ∙ ap (λ (a : ReadAnswer). readSaid a) (x .2),
+              );
           values =
-              λ t k p held place bytes told c. (
-                c .numbered ∙ ap (λ (a : ReadAnswer). readSaid a .refused) (answered t k p held (c .reading) (c .promised)),
+              λ t k p held place bytes told c.
+              let x = answered t k p held (c .reading) (c .promised) in (
+                c .numbered ∙ ap (λ (a : ReadAnswer). readSaid a .refused) (x .2) ∙ same-number (x .0) (E .format) (b .keys k),
                 given .values t k (typed-key k (p .0) (p .1)) held (record { place = place; bytes = bytes })
                     (subst (λ (r : Record). ValuePromise (r .edition) r area cells′ t k (record { place = place; bytes = bytes })) says (c .value)),
               );
@@ -83,7 +99,7 @@ demand-3-exported L n s area₀ area ab f es m run =
     record {
       recovery =
           λ order cells cells′ words words′ number good large long c.
-          words-give L n s order (m .area) cells cells′ words words′ number (bookOf es) long (c .recovers long)
+          words-give (editionsBehind (formattedIn L) es) n s order (m .area) cells cells′ words words′ number (bookOf es) long (c .recovers long)
           (stored .recovery order cells cells′ (c .recovers long .recovery) good large (c .recovers long .promised));
       above-told = stored .above-told;
       agrees = stored .agrees;

@@ -11,34 +11,38 @@ use Rattle.record.specs.Answers.{readSaid}
 use Rattle.model.specs.Recovery.{orderBad}
 use Rattle.words.specs.Words.{recordWords, decoded}
 use Rattle.history.specs.Book.{Event, Book, freshBook, bookOf, highestTold}
+use Rattle.history.specs.Editions.{Editions, Among, formattedIn, editionsBehind}
 use Rattle.history.specs.Demand3.{LargeEnough, bookAnswer, bookValue, EventsAgree}
 use Rattle.record.specs.Reach.{holdsTable}
 use Rattle.record.specs.declared.Tables.{Tables}
 use Rattle.kurdavel.specs.Crossing.{FormatCrossed, RecoverCrossed, ReadCrossed, ValueCrossed}
 use Rattle.exported.specs.Runs.{Memory, freshMemory, KeyArgument, readTold, ExportedRun}
 
--- What a recovery gives through words and index: it is accepted, the words say the book's next version, and for each key the two reads,
--- whose tables hold the key's, then answer what the book holds.
-pub record WordsGiveBook (L : Layout) (area cells words : List ℕ) (number : ℕ) (b : Book) : Type 0 where
+-- What a recovery gives through words and index: it is accepted, the words say an edition that a slot may have and no switch (02, R-13),
+-- and the book's next version; and for each key the two reads, whose tables hold the key's, then answer what the book holds. The kind
+-- is that of an edition that a slot may have; the number that a read of the value returns is the same in all of them.
+pub record WordsGiveBook (E : Editions) (area cells words : List ℕ) (number : ℕ) (b : Book) : Type 0 where
   pub is-accepted : number ≡ 0
+  pub own-edition : Among E (decoded words .rec .edition)
+  pub not-switched : decoded words .rec .switched ≡ false
   pub next-version : decoded words .rec .next .0 ≡ b .next
   pub answers :
       (t : Tables) (k : Key) → KeyArgument k → holdsTable t (k .table) ≡ true → (version kind told : ℕ) →
       ReadCrossed words area cells t k version kind told →
-      readTold told version kind ≡ readSaid (bookAnswer L (b .keys k))
+      (K : Layout) × Among E K × (readTold told version kind ≡ readSaid (bookAnswer K (b .keys k)))
   pub values :
       (t : Tables) (k : Key) → KeyArgument k → holdsTable t (k .table) ≡ true → (place bytes told : ℕ) →
       ValueCrossed words area cells t k place bytes told →
-      (told ≡ readSaid (bookAnswer L (b .keys k)) .refused) × (take bytes (drop place area) ≡ bookValue (b .keys k))
+      (told ≡ readSaid (bookAnswer (E .format) (b .keys k)) .refused) × (take bytes (drop place area) ≡ bookValue (b .keys k))
 
 -- What demand 3 says of one list of exported calls and cuts.
 pub record ExportedDemand3 (L : Layout) (n s : ℕ) (m : Memory) (es : List Event) : Type 0 where
   pub recovery :
       (order cells cells′ words words′ : List ℕ) (number : ℕ) → orderBad n order ≡ false → LargeEnough (m .cells) (length cells) →
       recordWords ≤ length words → RecoverCrossed n s order (m .area) cells cells′ words words′ number →
-      WordsGiveBook L (m .area) cells′ words′ number (bookOf es)
+      WordsGiveBook (editionsBehind (formattedIn L) es) (m .area) cells′ words′ number (bookOf es)
   pub above-told : highestTold es < bookOf es .next
-  pub agrees : EventsAgree L freshBook es
+  pub agrees : EventsAgree (formattedIn L) freshBook es
 
 -- From an accepted kurdavel_format on, which was told the number of an edition, for every list of exported calls and cuts.
 abbrev pub Demand3Exported : Type 0

@@ -18,9 +18,9 @@ use Rattle.record.specs.declared.Tables.{Tables}
 use Rattle.model.specs.Refused.{Terms, isPending}
 use Rattle.model.specs.Promises.{readLengths, lentLengths, tellLengths}
 use Rattle.words.specs.Words.{recordWords, decoded}
-use Rattle.history.specs.Book.{reads, readsValue, tells, fewest, starts, steps, asks, recovers, Answer, saying, giving, Event, called, cut, scans, scansValue, converts, joins, pairing}
+use Rattle.history.specs.Book.{reads, readsValue, tells, fewest, starts, steps, switches, asks, recovers, Answer, saying, giving, Event, called, cut, scans, scansValue, converts, joins, pairing}
 use Rattle.history.specs.Runs.{Held, World}
-use Rattle.kurdavel.specs.Crossing.{RecoverCrossed, ReadCrossed, ValueCrossed, StartCrossed, StepCrossed, TellCrossed, FewestCrossed, ScanCrossed, ScanValueCrossed, ConvertCrossed}
+use Rattle.kurdavel.specs.Crossing.{RecoverCrossed, ReadCrossed, ValueCrossed, StartCrossed, StepCrossed, TellCrossed, FewestCrossed, ScanCrossed, ScanValueCrossed, ConvertCrossed, SwitchCrossed}
 use Rattle.kurdavel.specs.Joining.{JoinCrossed}
 
 -- ---- what is held
@@ -109,6 +109,11 @@ pub data Exports (n s : ℕ) : Memory → List Event → Memory → Type 0 where
       Exports n s (record { area = area; held = some h; cells = m })
       (called steps (lentLengths area (h .cells) work) (saying (numberSaid number (stepTold left′ version′))) ∷ [])
       (record { area = area′; held = some (record { words = words′; cells = cells′; work = h .work }); cells = m })
+  -- kurdavel_switch, which changes the words alone
+  switch :
+      {area words′ : List ℕ} {h : HeldWords} {m : Option ℕ} {number : ℕ} → SwitchCrossed (h .words) words′ number →
+      Exports n s (record { area = area; held = some h; cells = m }) (called switches noLengths (saying (numberSaid number taken)) ∷ [])
+      (record { area = area; held = some (record { words = words′; cells = h .cells; work = h .work }); cells = m })
   -- kurdavel_read
   read :
       {area : List ℕ} {h : HeldWords} {m : Option ℕ} {v : Tables} {k : Key} {version kind number : ℕ} → KeyArgument k →

@@ -1,8 +1,9 @@
 -- What a delete that finds no room answers and leaves, as the code computes it: total functions of any area, cells and record.
 use Prim.Native.Nat.{ℕ, _+_, _-_, _/_, _^_, _≤_, _<_}
 use mathlib.Core.Path.{_≡_}
-use mathlib.Core.Bool.{Bool, true}
+use mathlib.Core.Bool.{Bool, true, not}
 use mathlib.Core.List.{List, _++_}
+use mathlib.Core.Option.{Option, none, some}
 use lib.Dec.{ltb}
 use lib.ListN.{length, getD, replicate}
 use lib.Seq.{sets}
@@ -12,30 +13,32 @@ use Rattle.segment.specs.Digest.{encodedDigest}
 use Rattle.segment.specs.declared.Key.{Key}
 use Rattle.slot_map.specs.Bit.{named}
 use Rattle.record.specs.RangeLaws.{Lent}
+use Rattle.record.specs.Switch.{newLayout}
 use Rattle.record.specs.declared.Pending.the-variants.{Forget}
-use Rattle.record.specs.declared.Refusal.the-variants.{BadRecord, NoRoom}
+use Rattle.record.specs.declared.Refusal.{Refusal}
+use Rattle.record.specs.declared.Refusal.the-variants.{BadRecord}
 use Rattle.record.specs.declared.Start.{Start}
 use Rattle.record.specs.declared.Record.{Record}
+use Rattle.model.specs.Causes.{firstCause}
 use Rattle.model.specs.Operations.{newSlot, digestWith, nextAfter}
 use Rattle.model.specs.Promises.{Begun}
 use Rattle.index.specs.Search.{searchFor}
 use Rattle.index.specs.declared.Found.{Found}
 use Rattle.starting.specs.Stores.{headStores}
-use Rattle.starting.specs.NewHead.{NumberLeft}
 use Rattle.starting.specs.Answer.{startedWith, refusedStart}
 use Rattle.cleaning.specs.Marks.{isMarked, markOutside}
 use Rattle.cleaning.specs.KeptModel.{splitOf}
 use Rattle.cleaning.specs.declared.Split.{Split}
+use Rattle.writing.specs.Tests.{fullTests}
 use Rattle.forgetting.specs.Forgot.{forgotOwn, fitsSegment}
 use Rattle.forgetting.specs.declared.Live.{Live}
 
 -- ---- what the code may rely on
 
--- A record in range with a version and a digest number left, and a work buffer of S bytes at least.
+-- A record in range with a version of the new head's edition left, and a work buffer of S bytes at least.
 pub record ForgetReady (L : Layout) (r : Record) (area cells work : List ℕ) : Type 0 where
   pub lent : Lent L r (length area) (length cells)
-  pub version-left : r .next .0 < versionLimit L
-  pub number-left : NumberLeft r
+  pub version-left : r .next .0 < versionLimit (newLayout r)
   pub long : r .size ≤ length work
 
 -- a slot of the log is one of the map's
@@ -46,8 +49,7 @@ inLog r i = both (ltb i (r .slots)) (named (r .map) i)
 pub record VictimReady (L : Layout) (r : Record) (area marks work : List ℕ) (split : Split) (slot : ℕ) : Type 0 where
   pub indexLength : ℕ
   pub lent : Lent L r (length area) indexLength
-  pub version-left : r .next .0 < versionLimit L
-  pub number-left : NumberLeft r
+  pub version-left : r .next .0 < versionLimit (newLayout r)
   pub long : r .size ≤ length work
   pub marks-long : length marks ≡ 128
   pub parted : split ≡ splitOf r (2 ^ slot)
@@ -67,10 +69,15 @@ forgotBegun W r victims work bytes =
       work = sets work 0 (encodedDigest W (digestWith r victims (nextAfter r)) ++ bytes);
     }
 
--- 02, R-13: where they do not fit a segment there is no room for the delete
+-- unless a cause holds
+unfoldable pub forgotBy : Layout → Record → ℕ → List ℕ → List ℕ → Option Refusal → Begun
+forgotBy W r victims work bytes none = forgotBegun W r victims work bytes
+forgotBy W r victims work bytes (some c) = record { start = refusedStart r c; work = work }
+
+-- 02, R-13: where they do not fit a segment there is no room for the delete, and a digest number is asked for behind that
 unfoldable pub forgotFitting : Layout → Record → ℕ → List ℕ → List ℕ → Begun
 forgotFitting W r victims work bytes =
-    pick (fitsSegment W (r .size) bytes) (forgotBegun W r victims work bytes) (record { start = refusedStart r NoRoom; work = work })
+    forgotBy W r victims work bytes (firstCause (fullTests r (not (fitsSegment W (r .size) bytes))))
 
 -- a store that is none of ours
 abbrev pub unfit : Record → List ℕ → Begun

@@ -16,6 +16,7 @@ use record::Pending;
 use record::Record;
 use record::Refusal;
 use record::Start;
+use record::new_edition;
 use segment::Edition;
 use segment::Key;
 use segment::Version;
@@ -24,16 +25,20 @@ use segment::reader::edition_of;
 use segment::writer::write_digest;
 use slot_map::next_free;
 use slot_map::with_slot;
+use starting::Check;
 use starting::answer::refused;
 use starting::answer::started;
 use starting::digest::new_digest;
 use starting::stores::head_stores;
-ghost use Prim.Native.Nat.{_≤_, _<_};
+use writing::full::check_full;
+ghost use Prim.Native.Nat.{_≤_};
 ghost use mathlib.Core.Path.{_≡_};
 ghost use mathlib.Core.Bool.{true};
+ghost use Rattle.record.specs.Switch.{newLayout};
 ghost use Rattle.index.specs.Search.{searchFor};
 ghost use Rattle.index.specs.SearchLaws.{Inside};
 ghost use Rattle.index.specs.declared.Found.the-variants.{At};
+ghost use Rattle.starting.specs.NewHead.{NumberLeft};
 ghost use Rattle.cleaning.specs.Entries.{SplitFits};
 ghost use Rattle.forgetting.specs.Forgot.{forgotSlot, forgotOwn, fitsSegment};
 ghost use Rattle.forgetting.specs.Sifted.{siftedMarks};
@@ -50,10 +55,12 @@ fn in_log(rec: Record, slot: usize) -> bool
     is_named(rec.map, slot)
 }
 
-// The new head's bytes go to the work buffer, and the delete is pending. Its digest has the next version after the delete.
+// The new head's bytes, in its edition, go to the work buffer, and the delete is pending. Its digest has the next version after the
+// delete.
 fn begin(
     rec: Record,
     edition: Edition,
+    into: Edition,
     area: &[u8],
     index: &[u32],
     marks: &[u32],
@@ -63,18 +70,18 @@ fn begin(
     slot: usize,
 ) -> Start
     requires { ⌜ VictimReady (rec .edition) rec (now area) (now marks) (now work) split slot ⌝ }
+    requires { ⌜ NumberLeft rec ⌝ }
     requires { ⌜
-        fitsSegment (rec .edition) (split .size)
-        (forgotSlot edition (rec .edition) (now area) (now index) (now marks) live (split .size) slot) ≡ true
+        fitsSegment into (split .size)
+        (forgotSlot edition into (now area) (now index) (now marks) live (split .size) slot) ≡ true
         ⌝ }
     ensures { λ r.
         ⌜
         record { start = r; work = now (work .exit) }
-        ≡ forgotBegun (rec .edition) rec (split .victims) (now (work .entry))
-        (forgotSlot edition (rec .edition) (now (area .entry)) (now (index .entry)) (now (marks .entry)) live (split .size) slot)
+        ≡ forgotBegun into rec (split .victims) (now (work .entry))
+        (forgotSlot edition into (now (area .entry)) (now (index .entry)) (now (marks .entry)) live (split .size) slot)
         ⌝ }
 {
-    let into = rec.edition;
     let next = rec.next;
     let victims = split.victims;
     let head = next_free(rec.slots, rec.map, rec.head);
@@ -96,8 +103,8 @@ fn begin(
     started(rec, pending, left)
 }
 
-// The live object and its slot are known. Where what comes of the slot does not fit a segment once it is rewritten, there is no room
-// (02, R-13).
+// The live object and its slot are known. What comes of the slot, rewritten, is held against a segment before a byte of the work buffer
+// changes: 12, and then 10 (02, R-13).
 fn forget_live(
     rec: Record,
     area: &[u8],
@@ -112,16 +119,28 @@ fn forget_live(
     ensures { λ r.
         ⌜
         record { start = r; work = now (work .exit) }
-        ≡ forgotFitting (rec .edition) rec (split .victims) (now (work .entry))
-        (forgotOwn (rec .edition) (now (area .entry)) (now (index .entry)) (now (marks .entry)) live (split .size) slot)
+        ≡ forgotFitting (newLayout rec) rec (split .victims) (now (work .entry))
+        (forgotOwn (newLayout rec) (now (area .entry)) (now (index .entry)) (now (marks .entry)) live (split .size) slot)
         ⌝ }
 {
-    let into = rec.edition;
+    let into = new_edition(rec);
     let edition = edition_of(cut(split.size, area, slot));
-    if !fits_segment(edition, into, area, index, marks, live, split, slot) {
-        return refused(rec, Refusal::NoRoom);
+    let fits = fits_segment(edition, into, area, index, marks, live, split, slot);
+    match check_full(rec, fits) {
+        Check::Refused(c) => refused(rec, c),
+        Check::Passed => begin(
+            rec,
+            edition,
+            into,
+            area,
+            index,
+            marks,
+            work,
+            live,
+            split,
+            slot,
+        ),
     }
-    begin(rec, edition, area, index, marks, work, live, split, slot)
 }
 
 // Marks the cells of the keys of objects outside the victim, of the key itself and those of the victim's tombstones: no other
@@ -152,7 +171,7 @@ fn forget_at(
     ensures { λ r.
         ⌜
         record { start = r; work = now (work .exit) }
-        ≡ forgotAt (rec .edition) rec (now (area .entry)) (now (index .entry)) key (now (work .entry)) cell
+        ≡ forgotAt (newLayout rec) rec (now (area .entry)) (now (index .entry)) key (now (work .entry)) cell
         ⌝ }
 {
     let place = (index[cell] - 1) as usize;
@@ -180,7 +199,7 @@ pub fn forget(rec: Record, area: &[u8], index: &[u32], work: &mut [u8], key: Key
     ensures { λ r.
         ⌜
         record { start = r; work = now (work .exit) }
-        ≡ forgotFor (rec .edition) rec (now (area .entry)) (now (index .entry)) key (now (work .entry))
+        ≡ forgotFor (newLayout rec) rec (now (area .entry)) (now (index .entry)) key (now (work .entry))
         ⌝ }
 {
     match search(area, index, key) {

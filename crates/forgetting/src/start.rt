@@ -10,6 +10,7 @@ use starting::Check;
 use starting::answer::refused;
 use starting::answer::started;
 use writing::causes::check_delete;
+use writing::causes::check_number;
 use writing::causes::no_room;
 use writing::lay::lay_entry;
 ghost use Rattle.model.specs.Operations.{delete};
@@ -17,7 +18,7 @@ ghost use Rattle.model.specs.Refused.{reaching};
 ghost use Rattle.model.specs.Promises.{StartPromise};
 
 // A key is to go: a tombstone, which has no value, takes the next version. Where it finds no room, the slot with the live object
-// is cleaned instead.
+// is cleaned instead, and 10 is tested behind 12 there.
 pub fn delete(
     rec: Record,
     area: &[u8],
@@ -36,12 +37,18 @@ pub fn delete(
     match check_delete(rec, area, index, work.len(), tables, key) {
         Check::Refused(c) => refused(rec, c),
         Check::Passed => {
-            if no_room(rec, head_size(edition)) {
+            let length = head_size(edition);
+            if no_room(rec, length) {
                 return forget(rec, area, index, work, key);
             }
-            let laying = lay_entry(rec, work, tombstone_kind(edition), key, &area[0..0]);
-            let pending = laying.pending;
-            started(rec, pending, laying.left)
+            match check_number(rec, length) {
+                Check::Refused(c) => refused(rec, c),
+                Check::Passed => {
+                    let laying = lay_entry(rec, work, tombstone_kind(edition), key, &area[0..0]);
+                    let pending = laying.pending;
+                    started(rec, pending, laying.left)
+                }
+            }
         }
     }
 }

@@ -6,7 +6,7 @@ use mathlib.Core.List.{List, [], _∷_}
 use mathlib.Core.Option.{Option, none, some}
 use Rattle.segment.specs.Choice.{pick}
 use Rattle.model.specs.Operations.{Operation}
-use Rattle.history.specs.Book.{Call, starts, steps, asks, recovers, Event, called, cut, accepted, Awaited, Book, finish, oneOff, takeOne, feedCall, feed, bookAfter}
+use Rattle.history.specs.Book.{Call, starts, steps, switches, asks, recovers, Event, called, cut, accepted, Awaited, Book, finish, oneOff, takeOne, feedCall, feed, bookAfter}
 
 module _ (P : Book → Type 0) (any-pending : (b : Book) (p : Option Awaited) → P b → P (record { keys = b .keys; next = b .next; pending = p }))
     (finish-keeps : (b : Book) (o : Operation) → P b → P (finish b o))
@@ -28,6 +28,7 @@ module _ (P : Book → Type 0) (any-pending : (b : Book) (p : Option Awaited) �
         go : (t : Bool) (c : Call) → P (pick t (feedCall b c (a .said .stores)) b)
         go true (starts q o) = any-pending b (some (record { operation = o; left = a .said .stores })) h
         go true steps = step-keeps b (b .pending) h
+        go true switches = h
         go true (asks q) = h
         go true (recovers n s order) = any-pending b none h
         go false c = h

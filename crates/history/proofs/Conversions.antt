@@ -1,20 +1,21 @@
 -- A converted area has the book of the store that it was converted from, by the invariant of demand 3 (02, R-12).
 use Prim.Native.Nat.{ℕ, max}
 use native.Mathlib.Omega.{arith}
-use mathlib.Core.Path.{sym, ap, _∙_}
+use mathlib.Core.Path.{refl, sym, ap, _∙_, subst}
+use mathlib.Core.Logic.{inl}
 use mathlib.Core.List.{List}
 use mathlib.Core.Option.{none, some}
 use Rattle.segment.specs.Layout.{Layout, otherLayout}
+use Rattle.record.specs.declared.Record.{Record}
 use Rattle.model.specs.Log.{Placed}
 use Rattle.model.specs.Recovery.{recordFrom}
 use Rattle.laws.specs.MapLaws.{valueAt}
-use Rattle.laws.specs.Converted.{SameStore, conversion-same}
-use Rattle.laws.specs.Operated.{OperationLaws}
-use Rattle.laws.specs.OperationsKept.{edition-laws}
+use Rattle.laws.specs.Converted.{SameStore, conversion-same, conversion-slots}
 use Rattle.history.specs.Book.{Book, bookAfter, freshBook, bookOf, highestTold}
+use Rattle.history.specs.Editions.{Editions, formattedIn, editionsBehind}
 use Rattle.history.specs.Runs.{World}
 use Rattle.history.specs.Conversions.{StoreWith, ConversionKeepsBook}
-use Rattle.history.proofs.Invariant.{Inv, HeldGood, baseCells, recovered-is, next-of, log-of}
+use Rattle.history.proofs.Invariant.{Inv, SlotsAmong, HeldGood, baseCells, recovered-is, next-of, log-of}
 use Rattle.history.proofs.Theorem.{run-keeps, gives-book, fresh}
 
 -- the invariant of the converted area, of which nothing is held
@@ -22,10 +23,11 @@ abbrev pub carriedWorld : World → List ℕ → World
 carriedWorld w target = record { area = target; held = none; cells = w .cells }
 
 carried-inv :
-    (L K : Layout) (n s : ℕ) (w : World) (b : Book) (t : ℕ) (target : List ℕ) → Inv L n s w b t →
-    SameStore K n s (baseCells (w .cells)) (w .area) target (recordFrom L n s (baseCells (w .cells)) (w .area)) → Inv K n s (carriedWorld w target) b t
+    (E : Editions) (L K : Layout) (n s : ℕ) (w : World) (b : Book) (t : ℕ) (target : List ℕ) → Inv E L n s w b t →
+    SameStore K n s (baseCells (w .cells)) (w .area) target (recordFrom L n s (baseCells (w .cells)) (w .area)) →
+    SlotsAmong (formattedIn K) n s target (recordFrom L n s (baseCells (w .cells)) (w .area) .map) → Inv (formattedIn K) K n s (carriedWorld w target) b t
 unfolding HeldGood
-carried-inv L K n s w b t target inv c =
+carried-inv E L K n s w b t target inv c slots =
     record {
       bytes = c .target-bytes;
       base = c .recovers ∙ ap some (recovered-is K n s m target (c .rec) (c .recovers));
@@ -35,6 +37,10 @@ carried-inv L K n s w b t target inv c =
             map-same =
                 λ k.
                 ap (λ (log : List Placed). valueAt log k) (log-of K n s m target (c .rec) (c .recovers)) ∙ sym (c .same-map k) ∙ inv .agrees .map-same k;
+            own-among = inl refl;
+            slots-among =
+                subst (SlotsAmong (formattedIn K) n s target)
+                (sym (c .same-slots) ∙ ap (λ (x : Record). x .map) (recovered-is K n s m target (c .rec) (c .recovers))) slots;
           };
       below = inv .below;
       held = tt;
@@ -44,23 +50,31 @@ carried-inv L K n s w b t target inv c =
     m = baseCells (w .cells)
 
 -- a world with the invariant is that of a store with that book
-pub inv-store : (L : Layout) → OperationLaws L → (n s : ℕ) (w : World) (b : Book) (t : ℕ) → Inv L n s w b t → StoreWith L n s w b t
-inv-store L laws n s w b t inv =
+pub inv-store : (E : Editions) (L : Layout) (n s : ℕ) (w : World) (b : Book) (t : ℕ) → Inv E L n s w b t → StoreWith E n s w b t
+inv-store E L n s w b t inv =
     record {
-      recovery = gives-book L laws n s w b t inv;
-      later = λ es x r. gives-book L laws n s x (bookAfter b es) (max t (highestTold es)) (run-keeps L laws n s b t r inv .0);
-      above-told = λ es x r. run-keeps L laws n s b t r inv .0 .below;
-      agrees = λ es x r. run-keeps L laws n s b t r inv .1;
+      recovery = gives-book n s E L w b t inv;
+      later =
+          λ es x r.
+          let (K, kept, agrees) = run-keeps n s E L b t r inv in
+          gives-book n s (editionsBehind E es) K x (bookAfter b es) (max t (highestTold es)) kept;
+      above-told = λ es x r. let (K, kept, agrees) = run-keeps n s E L b t r inv in kept .below;
+      agrees = λ es x r. let (K, kept, agrees) = run-keeps n s E L b t r inv in agrees;
     }
 
 -- For a store of either edition.
 pub conversion-keeps-book : (L : Layout) → ConversionKeepsBook L
 conversion-keeps-book L n s area₀ area ab p es w r target target′ q =
-    let inv = run-keeps L (edition-laws L) n s freshBook 0 r (fresh L (edition-laws L) n s area₀ area ab p) .0 in
-    let m = baseCells (w .cells) in
-    inv-store (otherLayout L) (edition-laws (otherLayout L)) n s (carriedWorld w target′) (bookOf es) (highestTold es)
-    (carried-inv L (otherLayout L) n s w (bookOf es) (highestTold es) target′ (told inv)
-    (conversion-same L n s m (w .area) target target′ (inv .bytes) q (recordFrom L n s m (w .area)) (inv .base)))
+    let (K, inv, agrees) = run-keeps n s (formattedIn L) L freshBook 0 r (fresh n s L area₀ area ab p) in
+    let m = baseCells (w .cells) in (
+      K,
+      inv .agrees .own-among,
+      inv-store (formattedIn (otherLayout K)) (otherLayout K) n s (carriedWorld w target′) (bookOf es) (highestTold es)
+          (carried-inv (editionsBehind (formattedIn L) es) K (otherLayout K) n s w (bookOf es) (highestTold es) target′ (told K inv)
+          (conversion-same K n s m (w .area) target target′ (inv .bytes) q (recordFrom K n s m (w .area)) (inv .base))
+          (λ i l named. inl (conversion-slots K n s m (w .area) target target′ (inv .bytes) q (recordFrom K n s m (w .area)) (inv .base) i l named))),
+    )
   where
-    told : Inv L n s w (bookOf es) (max 0 (highestTold es)) → Inv L n s w (bookOf es) (highestTold es)
-    told inv = record { bytes = inv .bytes; base = inv .base; agrees = inv .agrees; below = omega (arith, inv .below); held = inv .held }
+    told : (K : Layout) → Inv (editionsBehind (formattedIn L) es) K n s w (bookOf es) (max 0 (highestTold es)) →
+        Inv (editionsBehind (formattedIn L) es) K n s w (bookOf es) (highestTold es)
+    told K inv = record { bytes = inv .bytes; base = inv .base; agrees = inv .agrees; below = omega (arith, inv .below); held = inv .held }

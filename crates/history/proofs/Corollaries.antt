@@ -27,9 +27,10 @@ use Rattle.model.specs.Operations.{Operation, write, delete, clean, TypedKey}
 use Rattle.model.specs.Recovery.{orderBad, imageLayout}
 use Rattle.model.specs.Refused.{Lengths}
 use Rattle.model.specs.Promises.{FormatPromise, RecoverPromise, ReadPromise, Part, partOf, ValuePromise}
-use Rattle.history.specs.Book.{Question, reads, readsValue, scans, scansValue, Call, starts, steps, asks, recovers, Answer, saying, giving, Event, called, cut, accepted, Kept, Awaited, Book, freshBook, finish, versionFor, oneOff, takeOne, feedCall, feed, bookAfter, bookOf, versionTold, highestTold}
+use Rattle.history.specs.Book.{Question, reads, readsValue, scans, scansValue, Call, starts, steps, switches, asks, recovers, Answer, saying, giving, Event, called, cut, accepted, Kept, Awaited, Book, freshBook, finish, versionFor, oneOff, takeOne, feedCall, feed, bookAfter, bookOf, versionTold, highestTold}
+use Rattle.history.specs.Editions.{Editions, formattedIn, editionsAfter, editionsBehind}
 use Rattle.history.specs.Runs.{World, freshWorld, Run}
-use Rattle.history.specs.Demand3.{LargeEnough, bookAnswer, bookValue, GivesBook, StepAgrees, QuestionAgrees, EventAgrees, EventsAgree, Demand3Of}
+use Rattle.history.specs.Demand3.{LargeEnough, bookAnswer, bookValue, GivesBook, StepAgrees, ReadAgrees, QuestionAgrees, EventAgrees, EventsAgree, Demand3Of}
 use Rattle.history.specs.Finishing.{isWriteOf, lastOfWrite, finishesWrite, noWrite, Finishes}
 use Rattle.history.proofs.Books.{list-keeps}
 use Rattle.history.proofs.Theorem.{demand-3}
@@ -41,15 +42,19 @@ unfolding bookAfter
 book-append b [] ys = refl
 book-append b (x ∷ xs) ys = book-append (feed b x) xs ys
 
-pub agree-at : (L : Layout) (b : Book) (xs : List Event) (e : Event) (ys : List Event) → EventsAgree L b (xs ++ e ∷ ys) → EventAgrees L (bookAfter b xs) e
-unfolding EventsAgree bookAfter
-agree-at L b [] e ys h = h .0
-agree-at L b (x ∷ xs) e ys h = agree-at L (feed b x) xs e ys (h .1)
+pub agree-at :
+    (E : Editions) (b : Book) (xs : List Event) (e : Event) (ys : List Event) → EventsAgree E b (xs ++ e ∷ ys) →
+    EventAgrees (editionsBehind E xs) (bookAfter b xs) e
+unfolding EventsAgree bookAfter editionsBehind
+agree-at E b [] e ys h = h .0
+agree-at E b (x ∷ xs) e ys h = agree-at (editionsAfter E x) (feed b x) xs e ys (h .1)
 
-pub agree-behind : (L : Layout) (b : Book) (xs : List Event) (e : Event) (ys : List Event) → EventsAgree L b (xs ++ e ∷ ys) → EventsAgree L (feed (bookAfter b xs) e) ys
-unfolding EventsAgree bookAfter
-agree-behind L b [] e ys h = h .1
-agree-behind L b (x ∷ xs) e ys h = agree-behind L (feed b x) xs e ys (h .1)
+pub agree-behind :
+    (E : Editions) (b : Book) (xs : List Event) (e : Event) (ys : List Event) → EventsAgree E b (xs ++ e ∷ ys) →
+    EventsAgree (editionsAfter (editionsBehind E xs) e) (feed (bookAfter b xs) e) ys
+unfolding EventsAgree bookAfter editionsBehind
+agree-behind E b [] e ys h = h .1
+agree-behind E b (x ∷ xs) e ys h = agree-behind (editionsAfter E x) (feed b x) xs e ys (h .1)
 
 -- ---- a deleted key stays gone
 
@@ -90,6 +95,11 @@ gone-event b k (called steps l a) g h = go (accepted a) h
 gone-event b k (called (starts t o) l a) g h = go (accepted a)
   where
     go : (x : Bool) → pick x (feedCall b (starts t o) (a .said .stores)) b .keys k ≡ none
+    go true = g
+    go false = g
+gone-event b k (called switches l a) g h = go (accepted a)
+  where
+    go : (t : Bool) → pick t (feedCall b switches (a .said .stores)) b .keys k ≡ none
     go true = g
     go false = g
 gone-event b k (called (asks q) l a) g h = go (accepted a)
@@ -151,11 +161,12 @@ module _ (L : Layout) (n s : ℕ) (area₀ area : List ℕ) (ab : Bytes area₀)
       × ((p : Part) → ValuePromise (r .rec .edition) (r .rec) (w .area) cells′ t k p → partOf (w .area) p ≡ [])
   unfolding bookAnswer bookValue bookAfter
   deleted-stays-gone before after l a k w run deleting done none-written order cells cells′ r good large promise typed t held = (
-    λ x q. given .answers t k typed held x q ∙ ap (bookAnswer L) gone,
+    λ x q. let (K, its, answer) = given .answers t k typed held x q in answer ∙ ap (bookAnswer K) gone,
     λ v q. given .values t k typed held v q ∙ ap bookValue gone,
   )
     where
-      given : GivesBook L (w .area) cells′ r (bookOf (before ++ called steps l a ∷ after))
+      given :
+          GivesBook (editionsBehind (formattedIn L) (before ++ called steps l a ∷ after)) (w .area) cells′ r (bookOf (before ++ called steps l a ∷ after))
       given = demanded (before ++ called steps l a ∷ after) w run .recovery order cells cells′ r good large promise
 
       gone : bookOf (before ++ called steps l a ∷ after) .keys k ≡ none
@@ -173,10 +184,10 @@ module _ (L : Layout) (n s : ℕ) (area₀ area : List ℕ) (ab : Bytes area₀)
       × ((n s : ℕ) → q ≡ scans n s t k → x ≡ saying (refusal 8)) × ((n s : ℕ) → q ≡ scansValue n s t k → x ≡ giving [])
   unfolding EventAgrees QuestionAgrees bookAnswer bookValue
   deleted-reads-gone before between after l lent a x t k q w held run deleting done none-written = (
-    λ e. subst (λ (y : Question). QuestionAgrees L now y x) e agrees ∙ says,
-    λ e. subst (λ (y : Question). QuestionAgrees L now y x) e agrees ∙ gives,
-    λ n s e. subst (λ (y : Question). QuestionAgrees L now y x) e agrees ∙ says,
-    λ n s e. subst (λ (y : Question). QuestionAgrees L now y x) e agrees ∙ gives,
+    λ e. says (subst (λ (y : Question). QuestionAgrees E now y x) e agrees),
+    λ e. subst (λ (y : Question). QuestionAgrees E now y x) e agrees ∙ gives,
+    λ n s e. says (subst (λ (y : Question). QuestionAgrees E now y x) e agrees),
+    λ n s e. subst (λ (y : Question). QuestionAgrees E now y x) e agrees ∙ gives,
   )
     where
       now : Book
@@ -185,19 +196,24 @@ module _ (L : Layout) (n s : ℕ) (area₀ area : List ℕ) (ab : Bytes area₀)
       gone : now .keys k ≡ none
       gone = gone-since before l a k deleting done between none-written
 
-      says : saying (pick (holdsTable t (k .table)) (readSaid (bookAnswer L (now .keys k))) (refusal 22)) ≡ saying (refusal 8)
-      says =
-          ap saying (pick-true (holdsTable t (k .table)) (readSaid (bookAnswer L (now .keys k))) (refusal 22) held)
-          ∙ ap (λ (y : Option Kept). saying (readSaid (bookAnswer L y))) gone
+      -- the editions that slots may have by then
+      E : Editions
+      E = editionsBehind (editionsAfter (editionsBehind (formattedIn L) before) (called steps l a)) between
+
+      says : ReadAgrees E now t k x → x ≡ saying (refusal 8)
+      says (K, its, answer) =
+          answer
+          ∙ ap saying (pick-true (holdsTable t (k .table)) (readSaid (bookAnswer K (now .keys k))) (refusal 22) held)
+          ∙ ap (λ (y : Option Kept). saying (readSaid (bookAnswer K y))) gone
 
       gives : giving (pick (holdsTable t (k .table)) (bookValue (now .keys k)) []) ≡ giving []
       gives =
           ap giving (pick-true (holdsTable t (k .table)) (bookValue (now .keys k)) [] held) ∙ ap (λ (y : Option Kept). giving (bookValue y)) gone
 
-      agrees : QuestionAgrees L now q x
+      agrees : QuestionAgrees E now q x
       agrees =
-          agree-at L (feed (bookOf before) (called steps l a)) between (called (asks q) lent x) after
-          (agree-behind L freshBook before (called steps l a) (between ++ called (asks q) lent x ∷ after)
+          agree-at (editionsAfter (editionsBehind (formattedIn L) before) (called steps l a)) (feed (bookOf before) (called steps l a)) between (called (asks q) lent x) after
+          (agree-behind (formattedIn L) freshBook before (called steps l a) (between ++ called (asks q) lent x ∷ after)
           (demanded (before ++ called steps l a ∷ (between ++ called (asks q) lent x ∷ after)) w run .agrees))
 
   -- A step is accepted only where the book has an operation pending.
@@ -207,7 +223,7 @@ module _ (L : Layout) (n s : ℕ) (area₀ area : List ℕ) (ab : Bytes area₀)
   unfolding EventAgrees StepAgrees
   accepted-awaited before after l a w run done none-pending =
       subst (λ (x : Option Awaited). StepAgrees (bookOf before) (a .said) x) none-pending
-      (agree-at L freshBook before (called steps l a) after (demanded (before ++ called steps l a ∷ after) w run .agrees) done)
+      (agree-at (formattedIn L) freshBook before (called steps l a) after (demanded (before ++ called steps l a ∷ after) w run .agrees) done)
 
 -- ---- versions told
 
@@ -230,10 +246,10 @@ told-is b (clean victims) h = absurd (h refl)
 
 -- what a finished operation was told, at the book of the list before it
 pub told-at :
-    (L : Layout) (b : Book) (l : Lengths) (a : Answer) → EventAgrees L b (called steps l a) → (f : Finishes b a) →
+    (E : Editions) (b : Book) (l : Lengths) (a : Answer) → EventAgrees E b (called steps l a) → (f : Finishes b a) →
     a .said .version ≡ versionFor b (f .awaited .operation)
 unfolding EventAgrees StepAgrees
-told-at L b l a h f = subst (λ (x : Option Awaited). StepAgrees b (a .said) x) (f .pending) (h (f .is-accepted)) .1 (f .one-left)
+told-at E b l a h f = subst (λ (x : Option Awaited). StepAgrees b (a .said) x) (f .pending) (h (f .is-accepted)) .1 (f .one-left)
 
 pub book-at : (b : Book) (l : Lengths) (a : Answer) (f : Finishes b a) → feed b (called steps l a) ≡ finish b (f .awaited .operation)
 unfolding feed feedCall takeOne oneOff
@@ -274,17 +290,17 @@ module _ (L : Layout) (n s : ℕ) (area₀ area : List ℕ) (ab : Bytes area₀)
       b₂ : Book
       b₂ = bookAfter (feed (bookOf first) (called steps l a)) between
 
-      agree : EventsAgree L freshBook (first ++ called steps l a ∷ (between ++ called steps k c ∷ last))
+      agree : EventsAgree (formattedIn L) freshBook (first ++ called steps l a ∷ (between ++ called steps k c ∷ last))
       agree = demanded L n s area₀ area ab format (first ++ called steps l a ∷ (between ++ called steps k c ∷ last)) w run .agrees
 
       told-a : a .said .version ≡ versionFor b₁ (f .awaited .operation)
-      told-a = told-at L b₁ l a (agree-at L freshBook first (called steps l a) (between ++ called steps k c ∷ last) agree) f
+      told-a = told-at (editionsBehind (formattedIn L) first) b₁ l a (agree-at (formattedIn L) freshBook first (called steps l a) (between ++ called steps k c ∷ last) agree) f
 
       told-c : c .said .version ≡ versionFor b₂ (g .awaited .operation)
       told-c =
-          told-at L b₂ k c
-          (agree-at L (feed b₁ (called steps l a)) between (called steps k c) last
-          (agree-behind L freshBook first (called steps l a) (between ++ called steps k c ∷ last) agree)) g
+          told-at (editionsBehind (editionsAfter (editionsBehind (formattedIn L) first) (called steps l a)) between) b₂ k c
+          (agree-at (editionsAfter (editionsBehind (formattedIn L) first) (called steps l a)) (feed b₁ (called steps l a)) between (called steps k c) last
+          (agree-behind (formattedIn L) freshBook first (called steps l a) (between ++ called steps k c ∷ last) agree)) g
 
       is-a : (versionFor b₁ (f .awaited .operation) ≡ b₁ .next) × (b₁ .next < finish b₁ (f .awaited .operation) .next)
       is-a = told-is b₁ (f .awaited .operation) (λ z. na (told-a ∙ z))

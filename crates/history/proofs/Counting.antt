@@ -6,15 +6,14 @@ use mathlib.Core.List.{List}
 use mathlib.Core.Option.{some}
 use Rattle.word.specs.Number.{Bytes}
 use Rattle.segment.specs.Layout.{Layout, numberOfLayout}
-use Rattle.record.specs.Answers.{withPending}
+use Rattle.record.specs.Switch.{asRecovered}
 use Rattle.record.specs.declared.FormatAnswer.{FormatAnswer}
-use Rattle.record.specs.declared.Pending.the-variants.{Idle}
 use Rattle.record.specs.declared.Record.{Record}
 use Rattle.model.specs.Counts.{countsOf}
 use Rattle.model.specs.Operations.{logNow}
 use Rattle.model.specs.Promises.{Genuine, FormatPromise}
-use Rattle.laws.specs.OperationsKept.{edition-laws}
 use Rattle.history.specs.Book.{Event, freshBook, bookOf}
+use Rattle.history.specs.Editions.{formattedIn, editionsBehind}
 use Rattle.history.specs.Runs.{Held, World, freshWorld, Run}
 use Rattle.history.proofs.Invariant.{HeldGood, Holding, recovered-is}
 use Rattle.history.proofs.Theorem.{fresh, run-keeps}
@@ -22,7 +21,7 @@ use Rattle.history.proofs.Theorem.{fresh, run-keeps}
 -- a genuine record's numbers, whether or not an operation is pending
 pub genuine-counts : (L : Layout) (area : List ℕ) (r : Record) (cells : List ℕ) → Genuine L area r cells → r .counts ≡ countsOf (logNow area r)
 genuine-counts L area r cells g =
-    let is = recovered-is L (r .slots) (r .size) (r .cells) area (withPending r Idle) (g .recovers) in
+    let is = recovered-is L (r .slots) (r .size) (r .cells) area (asRecovered r) (g .recovers) in
     ap (λ (x : Record). x .counts) is ∙ sym (ap (λ (x : Record). countsOf (logNow area x)) is)
 
 -- After any list of events since the format, a record that is held counts the present bytes of the area as it is.
@@ -31,7 +30,7 @@ pub counts-kept :
     (es : List Event) (w : World) → Run n s (freshWorld area) es w → (h : Held) → w .held ≡ some h → h .rec .counts ≡ countsOf (logNow (w .area) (h .rec))
 unfolding HeldGood
 counts-kept L n s area₀ area ab p es w r h e =
-    let kept = run-keeps L (edition-laws L) n s freshBook 0 r (fresh L (edition-laws L) n s area₀ area ab p) .0 in
-    let good : Holding L n s (w .area) (w .cells) (bookOf es) h =
-    subst (HeldGood L n s (w .area) (w .cells) (bookOf es)) e (kept .held) in
-    genuine-counts L (w .area) (h .rec) (h .cells) (good .genuine)
+    let (K, kept, agrees) = run-keeps n s (formattedIn L) L freshBook 0 r (fresh n s L area₀ area ab p) in
+    let good : Holding (editionsBehind (formattedIn L) es) K n s (w .area) (w .cells) (bookOf es) h =
+    subst (HeldGood (editionsBehind (formattedIn L) es) K n s (w .area) (w .cells) (bookOf es)) e (kept .held) in
+    genuine-counts K (w .area) (h .rec) (h .cells) (good .genuine)

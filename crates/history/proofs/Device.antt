@@ -16,16 +16,15 @@ use Rattle.model.specs.Operations.{logNow, planFor, stored}
 use Rattle.model.specs.Refused.{Lengths, isPending, stepCauses, tellCauses}
 use Rattle.model.specs.Promises.{Started, StepPromise, lentLengths, tellLengths, TellPromise}
 use Rattle.laws.specs.Members.{clash}
-use Rattle.laws.specs.Operated.{OperationLaws}
-use Rattle.laws.specs.OperationsKept.{edition-laws}
 use Rattle.laws.specs.Stores.{stored-next}
 use Rattle.history.specs.Book.{tells, steps, Answer, telling, accepted, Event, called, Book, freshBook, bookOf}
+use Rattle.history.specs.Editions.{Editions, formattedIn, editionsBehind}
 use Rattle.history.specs.Runs.{Held, World, Asked, tell, Moves, step, Run, stop, go}
 use Rattle.history.specs.Demand3.{Demand3Of}
 use Rattle.history.specs.Device.{onDevice, DeviceFor, DeviceClaim}
 use Rattle.history.proofs.Invariant.{Inv, Holding, HeldGood, Phase, idle, pending, held-promise}
 use Rattle.history.proofs.Tellings.{idle-refused, refused-told, started-pending}
-use Rattle.history.proofs.Theorem.{run-keeps, fresh, demand-3-for}
+use Rattle.history.proofs.Theorem.{run-keeps, fresh, demand-3}
 
 -- a list of events and one more
 one-more : {n s : ℕ} {w x y : World} {es : List Event} {e : Event} → Run n s w es x → Moves n s x e y → Run n s w (es ++ e ∷ []) y
@@ -34,17 +33,17 @@ one-more (go k r) m = go k (one-more r m)
 
 -- ---- a store that is told and the step that follows
 
-module _ (L : Layout) (n s : ℕ) (area area′ cells′ work work′ : List ℕ) (h : Held) (m : Option ℕ) (b : Book) (x : Foretold) (a : Stepped)
+module _ (E : Editions) (L : Layout) (n s : ℕ) (area area′ cells′ work work′ : List ℕ) (h : Held) (m : Option ℕ) (b : Book) (x : Foretold) (a : Stepped)
     (own : isPending (h .rec .pending) ≡ true → work ≡ h .work) (p : TellPromise L (h .rec) area work x) (took : accepted (telling (x .answer)) ≡ true)
     (own′ : isPending (h .rec .pending) ≡ true → work′ ≡ h .work) (q : StepPromise L (h .rec) area area′ (h .cells) cells′ work′ a)
-    (good : Holding L n s area m b h)
+    (good : Holding E L n s area m b h)
   where
     abbrev cause : Option Refusal
     cause = firstCause (tellCauses L (h .rec) (tellLengths area work))
 
     none-holds : (c : Option Refusal) → cause ≡ c → cause ≡ none
     none-holds none e = e
-    none-holds (some c) e = absurd (clash (accepted (telling (x .answer))) took (refused-told L n s area work h m x b 0 own p c e))
+    none-holds (some c) e = absurd (clash (accepted (telling (x .answer))) took (refused-told E L n s area work h m x b 0 own p c e))
 
     no-cause : cause ≡ none
     no-cause = none-holds cause refl
@@ -96,27 +95,28 @@ module _ (L : Layout) (n s : ℕ) (area area′ cells′ work work′ : List ℕ
     pub told-stored : area′ ≡ onDevice area (telling (x .answer))
     told-stored = told-from (started (good .phase))
 
-module _ (L : Layout) (n s : ℕ) where
+module _ (E : Editions) (L : Layout) (n s : ℕ) where
   told-then :
       {w x : World} {l k : Lengths} {told a : Answer} (b : Book) (t : ℕ) → Asked w tells l told → accepted told ≡ true →
-      Moves n s w (called steps k a) x → Inv L n s w b t → x .area ≡ onDevice (w .area) told
+      Moves n s w (called steps k a) x → Inv E L n s w b t → x .area ≡ onDevice (w .area) told
   unfolding HeldGood
   told-then b t (tell {area} {work} {h} {m} {a = y} own p) took (step {area′ = area′} {cells′ = cells′} {work = work′} {a = a} own′ q) inv =
-      told-stored L n s area area′ cells′ work work′ h m b y a own
-      (held-promise L n s area m b h (inv .held) (λ (K : Layout). TellPromise K (h .rec) area work y) p) took own′
-      (held-promise L n s area m b h (inv .held) (λ (K : Layout). StepPromise K (h .rec) area area′ (h .cells) cells′ work′ a) q) (inv .held)
+      told-stored E L n s area area′ cells′ work work′ h m b y a own
+      (held-promise E L n s area m b h (inv .held) (λ (K : Layout). TellPromise K (h .rec) area work y) p) took own′
+      (held-promise E L n s area m b h (inv .held) (λ (K : Layout). StepPromise K (h .rec) area area′ (h .cells) cells′ work′ a) q) (inv .held)
 
-pub device-for : (L : Layout) → OperationLaws L → DeviceFor L
-device-for L laws n s area₀ area ab f es w x run l k told a asked took moved =
-    let same = told-then L n s (bookOf es) _ asked took moved (run-keeps L laws n s freshBook 0 run (fresh L laws n s area₀ area ab f) .0) in
+pub device-for : (L : Layout) → DeviceFor L
+device-for L n s area₀ area ab f es w x run l k told a asked took moved =
+    let (K, kept, agrees) = run-keeps n s (formattedIn L) L freshBook 0 run (fresh n s L area₀ area ab f) in
+    let same = told-then (editionsBehind (formattedIn L) es) K n s (bookOf es) _ asked took moved kept in
     record {
       same = sym same;
-      before = demand-3-for L laws n s area₀ area ab f es w run;
+      before = demand-3 L n s area₀ area ab f es w run;
       after =
           subst (λ (d : List ℕ). Demand3Of L n s (record { area = d; held = x .held; cells = x .cells }) (es ++ called steps k a ∷ [])) same
-          (demand-3-for L laws n s area₀ area ab f (es ++ called steps k a ∷ []) x (one-more run moved));
+          (demand-3 L n s area₀ area ab f (es ++ called steps k a ∷ []) x (one-more run moved));
     }
 
 -- A device that gets each byte as it is told recovers as the store does that was cut on one side of the step.
 pub device : DeviceClaim
-device L = device-for L (edition-laws L)
+device L = device-for L

@@ -24,7 +24,8 @@ use Rattle.model.specs.Log.{sameKeys}
 use Rattle.model.specs.Operations.{Operation, write, delete, clean}
 use Rattle.model.specs.Refused.{Lengths, Terms}
 use Rattle.model.specs.Promises.{FormatPromise}
-use Rattle.history.specs.Book.{reads, starts, steps, asks, recovers, Answer, saying, Event, called, cut, accepted, Kept, bookVersion, Awaited, Book, freshBook, finish, versionFor, oneOff, takeOne, feedCall, feed, bookAfter, bookOf}
+use Rattle.history.specs.Book.{reads, starts, steps, switches, asks, recovers, Answer, saying, Event, called, cut, accepted, Kept, bookVersion, Awaited, Book, freshBook, finish, versionFor, oneOff, takeOne, feedCall, feed, bookAfter, bookOf}
+use Rattle.history.specs.Editions.{Editions, formattedIn, editionsAfter, editionsBehind}
 use Rattle.history.specs.Runs.{World}
 use Rattle.history.specs.Demand3.{bookAnswer, Expects, StartAgrees, QuestionAgrees, EventAgrees, EventsAgree}
 use Rattle.history.specs.Finishing.{goesOn, allGoOn, Finishes}
@@ -63,6 +64,11 @@ event-on keys o b (called steps l a) g h = go (accepted a)
   where
     go : (t : Bool) → Ongoing keys o (pick t (takeOne b (b .pending)) b)
     go true = step-on keys o b h
+    go false = h
+event-on keys o b (called switches l a) g h = go (accepted a)
+  where
+    go : (t : Bool) → Ongoing keys o (pick t b b)
+    go true = h
     go false = h
 event-on keys o b (called (asks q) l a) g h = go (accepted a)
   where
@@ -196,10 +202,10 @@ within-told L true n y a h e done = read-told L n y a h e done
 within-told L false n y a h e done =
     let refused-22 : eqb 22 0 ≡ true = sym (ap accepted e) ∙ done in let z : _≡_ {A = ℕ} 0 1 = cc in absurd (omega arith)
 
-agree-prefix : (L : Layout) (b : Book) (xs ys : List Event) → EventsAgree L b (xs ++ ys) → EventsAgree L b xs
+agree-prefix : (E : Editions) (b : Book) (xs ys : List Event) → EventsAgree E b (xs ++ ys) → EventsAgree E b xs
 unfolding EventsAgree
-agree-prefix L b [] ys h = tt
-agree-prefix L b (x ∷ xs) ys h = (h .0, agree-prefix L (feed b x) xs ys (h .1))
+agree-prefix E b [] ys h = tt
+agree-prefix E b (x ∷ xs) ys h = (h .0, agree-prefix (editionsAfter E x) (feed b x) xs ys (h .1))
 
 -- ---- runs
 
@@ -212,7 +218,7 @@ module _ (L : Layout) (n s : ℕ) (area₀ area : List ℕ) (ab : Bytes area₀)
   unfolding EventAgrees StartAgrees Expects
   expected-found before after t e k value l a w run asked done =
       subst (λ (x : Expected). Expects x (bookVersion (bookOf before .keys k))) asked
-      (agree-at L freshBook before (called (starts t (write k value)) l a) after
+      (agree-at (formattedIn L) freshBook before (called (starts t (write k value)) l a) after
       (demanded L n s area₀ area ab format (before ++ called (starts t (write k value)) l a ∷ after) w run .agrees) done)
 
   -- A write that expects a version is started, nothing breaks it off, and its last step is accepted. Up to that step the book had
@@ -257,9 +263,9 @@ module _ (L : Layout) (n s : ℕ) (area₀ area : List ℕ) (ab : Bytes area₀)
 
           told : c .said .version ≡ atLast .next
           told =
-              told-at L atLast m c
-              (agree-at L begun between (called steps m c) after
-              (agree-behind L freshBook before (called (starts t (write k value)) l a) (between ++ called steps m c ∷ after)
+              told-at (editionsBehind (editionsAfter (editionsBehind (formattedIn L) before) (called (starts t (write k value)) l a)) between) atLast m c
+              (agree-at (editionsAfter (editionsBehind (formattedIn L) before) (called (starts t (write k value)) l a)) begun between (called steps m c) after
+              (agree-behind (formattedIn L) freshBook before (called (starts t (write k value)) l a) (between ++ called steps m c ∷ after)
               (demanded L n s area₀ area ab format (before ++ called (starts t (write k value)) l a ∷ (between ++ called steps m c ∷ after)) w run .agrees))) f
               ∙ ap (versionFor atLast) (own .same-operation)
 
@@ -282,16 +288,16 @@ module _ (L : Layout) (n s : ℕ) (area₀ area : List ℕ) (ab : Bytes area₀)
           found : e .0 ≡ bookVersion (bookOf before .keys k)
           found = expected-found before (between ++ called steps m c ∷ after) t e k value l a w run asked done
 
-          agree : EventsAgree L freshBook (first ++ called (asks (reads v k)) j r ∷ mid)
+          agree : EventsAgree (formattedIn L) freshBook (first ++ called (asks (reads v k)) j r ∷ mid)
           agree =
-              subst (EventsAgree L freshBook) split
-              (agree-prefix L freshBook before (called (starts t (write k value)) l a ∷ (between ++ called steps m c ∷ after))
+              subst (EventsAgree (formattedIn L) freshBook) split
+              (agree-prefix (formattedIn L) freshBook before (called (starts t (write k value)) l a ∷ (between ++ called steps m c ∷ after))
               (demanded L n s area₀ area ab format (before ++ called (starts t (write k value)) l a ∷ (between ++ called steps m c ∷ after)) w run .agrees))
 
           told : Told (bookOf first .next) (r .said .version) (bookOf first .keys k)
           told =
-              within-told L (holdsTable v (k .table)) (bookOf first .next) (bookOf first .keys k) r (book-versioned first .versions k)
-              (agree-at L freshBook first (called (asks (reads v k)) j r) mid agree) read-done
+              let (K, its, answer) = agree-at (formattedIn L) freshBook first (called (asks (reads v k)) j r) mid agree in
+              within-told K (holdsTable v (k .table)) (bookOf first .next) (bookOf first .keys k) r (book-versioned first .versions k) answer read-done
 
           later : Book
           later = bookAfter (feed (bookOf first) (called (asks (reads v k)) j r)) mid

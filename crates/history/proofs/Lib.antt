@@ -6,6 +6,7 @@ pub mod Steps
 pub mod Tellings
 pub mod Readings
 pub mod Scannings
+pub mod Switchings
 pub mod Recoveries
 pub mod Theorem
 pub mod Conversions

@@ -24,6 +24,7 @@ use Rattle.record.specs.declared.Pending.the-variants.{Idle, Append, NewHead, C
 use Rattle.record.specs.declared.Refusal.{Refusal}
 use Rattle.record.specs.declared.Start.{Start}
 use Rattle.record.specs.declared.StartAnswer.{StartAnswer}
+use Rattle.record.specs.Switch.{unswitched}
 use Rattle.record.specs.declared.Record.{Record}
 use Rattle.model.specs.Log.{Placed, present}
 use Rattle.model.specs.Causes.{firstCause}
@@ -37,6 +38,7 @@ use Rattle.laws.specs.Passed.{write-passed, StartPassed, start-passed}
 use Rattle.laws.specs.Starts.{freely-accepted}
 use Rattle.laws.specs.Operated.{Accepted, OperationLaws}
 use Rattle.history.specs.Book.{starts, saying, Event, called, Kept, bookVersion, Book, feed, feedCall, versionTold}
+use Rattle.history.specs.Editions.{Editions}
 use Rattle.history.specs.Runs.{Held, heldAfter}
 use Rattle.history.specs.Demand3.{Expects, StartAgrees, EventAgrees}
 use Rattle.history.proofs.Invariant.{idle-same, Inv, Holding, HeldGood, bookEntry, pending}
@@ -69,20 +71,20 @@ found-expected (Only x) v w h q = eqb-true (x .0) v (not-false (eqb (x .0) v) h)
 
 -- ---- the two ways of a start
 
-module _ (L : Layout) (laws : OperationLaws L) (n s : ℕ) where
+module _ (E : Editions) (L : Layout) (laws : OperationLaws L) (n s : ℕ) where
   abbrev pub startEvent : Terms → Operation → Lengths → Start → Event
   startEvent q o lent a = called (starts q o) lent (saying (startSaid (a .answer)))
 
   -- what is to be shown of a start that answers a and leaves the work buffer work′
   abbrev pub StartGoal : List ℕ → Held → Option ℕ → Terms → Operation → Lengths → Book → ℕ → Start → List ℕ → Type 0
   StartGoal area h m q o lent b t a work′ =
-      Inv L n s (record { area = area; held = some (heldAfter h work′ a); cells = m }) (feed b (startEvent q o lent a))
+      Inv E L n s (record { area = area; held = some (heldAfter h work′ a); cells = m }) (feed b (startEvent q o lent a))
       (max t (versionTold (startEvent q o lent a)))
-      × EventAgrees L b (startEvent q o lent a)
+      × EventAgrees E b (startEvent q o lent a)
 
   refused :
       (area : List ℕ) (h : Held) (m : Option ℕ) (q : Terms) (o : Operation) (lent : Lengths) (b : Book) (t : ℕ) (work′ : List ℕ) (c : Refusal) →
-      Inv L n s (record { area = area; held = some h; cells = m }) b t →
+      Inv E L n s (record { area = area; held = some h; cells = m }) b t →
       StartGoal area h m q o lent b t (record { answer = StartAnswer.Refused c; rec = h .rec }) work′
   unfolding feed versionTold EventAgrees
   refused area h m q o lent b t work′ c inv = (
@@ -94,20 +96,20 @@ module _ (L : Layout) (laws : OperationLaws L) (n s : ℕ) where
   -- An accepted write found the version of the book.
   agreed :
       (area : List ℕ) (h : Held) (m : Option ℕ) (q : Terms) (o : Operation) (b : Book) (t : ℕ) (l : Lengths) →
-      Inv L n s (record { area = area; held = some h; cells = m }) b t → Holding L n s area m b h →
+      Inv E L n s (record { area = area; held = some h; cells = m }) b t → Holding E L n s area m b h →
       firstCause (startCauses L (h .rec) (logNow area (h .rec)) l q o) ≡ none → StartAgrees b q o
   unfolding StartAgrees startCauses
   agreed area h m q (write k value) b t l inv good e =
       let log = logNow area (h .rec) in
       found-expected (q .expected) (versionIn (present log k)) (bookVersion (b .keys k))
       (write-passed L (h .rec) l q k (keyFacts log k) (length value) e .as-expected)
-      (version-same k (present log k) (b .keys k) (map-now L laws n s area h m b t inv good k))
+      (version-same k (present log k) (b .keys k) (map-now E L laws n s area h m b t inv good k))
   agreed area h m q (delete k) b t l inv good e = tt
   agreed area h m q (clean victims) b t l inv good e = tt
 
   accepts :
       (area : List ℕ) (h : Held) (m : Option ℕ) (q : Terms) (o : Operation) (lent : Lengths) (b : Book) (t : ℕ) (work : List ℕ) → Typed o →
-      Inv L n s (record { area = area; held = some h; cells = m }) b t →
+      Inv E L n s (record { area = area; held = some h; cells = m }) b t →
       firstCause (startCauses L (h .rec) (logNow area (h .rec)) (lentLengths area (h .cells) work) q o) ≡ none →
       StartGoal area h m q o lent b t
       (record {
@@ -120,7 +122,13 @@ module _ (L : Layout) (laws : OperationLaws L) (n s : ℕ) where
     record {
       bytes = inv .bytes;
       base = inv .base;
-      agrees = record { next-same = inv .agrees .next-same; map-same = inv .agrees .map-same };
+      agrees =
+          record {
+            next-same = inv .agrees .next-same;
+            map-same = inv .agrees .map-same;
+            own-among = inv .agrees .own-among;
+            slots-among = inv .agrees .slots-among;
+          };
       below = rw (max-zero t) (inv .below);
       held =
           record {
@@ -130,6 +138,7 @@ module _ (L : Layout) (laws : OperationLaws L) (n s : ℕ) where
             index-long = inv .held .index-long;
             genuine = record { recovers = inv .held .genuine .recovers; rule = inv .held .genuine .rule };
             phase = pending begun-now (rw sub-zero refl);
+            switch = inv .held .switch;
           };
     },
     λ _. agreed area h m q o b t (lentLengths area (h .cells) work) inv (inv .held) e,
@@ -150,7 +159,7 @@ module _ (L : Layout) (laws : OperationLaws L) (n s : ℕ) where
       none-pending : r .pending ≡ Idle
       none-pending = not-pending (r .pending) (led .idle)
 
-      recovers : recovered L (r .slots) (r .size) (r .cells) area ≡ some r
+      recovers : recovered L (r .slots) (r .size) (r .cells) area ≡ some (unswitched r)
       recovers = inv .held .genuine .recovers ∙ ap some (idle-same r none-pending)
 
       acc : Accepted L area r o
@@ -180,7 +189,7 @@ module _ (L : Layout) (laws : OperationLaws L) (n s : ℕ) where
   -- A start keeps the invariant.
   pub start-keeps :
       (area work work′ : List ℕ) (h : Held) (m : Option ℕ) (q : Terms) (o : Operation) (a : Start) (b : Book) (t : ℕ) → Typed o →
-      StartPromise L q o (h .rec) area (h .cells) work work′ a → Inv L n s (record { area = area; held = some h; cells = m }) b t →
+      StartPromise L q o (h .rec) area (h .cells) work work′ a → Inv E L n s (record { area = area; held = some h; cells = m }) b t →
       StartGoal area h m q o (lentLengths area (h .cells) work) b t a work′
   unfolding HeldGood begun
   start-keeps area work work′ h m q o a b t ty p inv = subst⁻¹ Goal (p .exact (inv .held .genuine)) (go cause refl)

@@ -4,6 +4,7 @@ use native.Mathlib.Nat.{max-zero}
 use native.Mathlib.Omega.{arith}
 use mathlib.Core.Path.{_≡_, refl, sym, ap, _∙_, subst, subst⁻¹}
 use mathlib.Core.Bool.{Bool, true, false}
+use mathlib.Core.Logic.{inl, inr}
 use mathlib.Core.List.{List}
 use mathlib.Core.Option.{Option, none, some}
 use lib.Dec.{eqb}
@@ -12,7 +13,8 @@ use lib.Seq.{take-all}
 use borrow.Author.Tests.{not-false}
 use Rattle.word.specs.Number.{Bytes}
 use Rattle.segment.specs.Choice.{pick, pick-false}
-use Rattle.segment.specs.Layout.{Layout}
+use Rattle.segment.specs.Layout.{Layout, edition2}
+use Rattle.slot_map.specs.Bit.{named}
 use Rattle.segment.specs.declared.Key.{Key}
 use Rattle.record.specs.Answers.{stepSaid, withPending}
 use Rattle.record.specs.Refusals.{numberOfRefusal}
@@ -20,8 +22,9 @@ use Rattle.record.specs.declared.Pending.the-variants.{Idle}
 use Rattle.record.specs.declared.Refusal.{Refusal}
 use Rattle.record.specs.declared.Stepped.{Stepped}
 use Rattle.record.specs.declared.StepAnswer.{StepAnswer}
+use Rattle.record.specs.Switch.{newLayout, unswitched}
 use Rattle.record.specs.declared.Record.{Record}
-use Rattle.model.specs.Log.{Placed}
+use Rattle.model.specs.Log.{Placed, viewsOf}
 use Rattle.model.specs.Causes.{firstCause}
 use Rattle.model.specs.Recovery.{recovered}
 use Rattle.model.specs.Index.{IndexRule}
@@ -31,31 +34,36 @@ use Rattle.model.specs.Promises.{Started, StepPromise, StepExact, stepped, Inde
 use Rattle.laws.specs.CauseLaws.{refusal-number}
 use Rattle.laws.specs.Passed.{step-passed}
 use Rattle.laws.specs.MapLaws.{valueAt}
+use Rattle.laws.specs.Headed.{SlotOrigin}
+use Rattle.laws.specs.RecoverLaws.{recovered-edition}
 use Rattle.laws.specs.Operated.{Accepted, OperationLaws, planAt}
 use Rattle.history.specs.Book.{steps, saying, Event, called, Awaited, Book, feed, feedCall, takeOne, oneOff, finish, versionFor, versionTold}
+use Rattle.history.specs.Editions.{Editions, Among}
 use Rattle.history.specs.Runs.{Held}
 use Rattle.history.specs.Demand3.{EventAgrees, StepAgrees}
-use Rattle.history.proofs.Invariant.{Inv, Holding, HeldGood, Phase, idle, pending, next-of, log-of, idle-of, slots-of, size-of, cells-of, idle-same, with-geometry, own-geometry, started-accepted, rebuilt, bookEntry}
-use Rattle.history.proofs.Finished.{finish-idle, finished-next, told-same, told-below, next-grows, finished-map}
+use Rattle.history.proofs.Invariant.{Inv, SlotsAmong, recovered-is, Holding, HeldGood, Phase, idle, pending, next-of, log-of, idle-of, slots-of, size-of, cells-of, idle-same, with-geometry, own-geometry, started-accepted, rebuilt, bookEntry}
+use Rattle.history.proofs.Finished.{finish-idle, finished-edition, finished-switch, finished-next, told-same, told-below, next-grows, finished-map}
 
-module _ (L : Layout) (laws : OperationLaws L) (n s : ℕ) where
+module _ (E : Editions) (L : Layout) (laws : OperationLaws L) (n s : ℕ) where
   abbrev pub stepEvent : Lengths → StepAnswer → Event
   stepEvent lent a = called steps lent (saying (stepSaid a))
 
-  -- what is to be shown of a step that answers a and leaves this area and these cells
+  -- what is to be shown of a step that answers a and leaves this area and these cells: a new head may be of another edition
   abbrev pub StepGoal : Held → Option ℕ → Lengths → Book → ℕ → List ℕ → List ℕ → Stepped → Type 0
   StepGoal h m lent b t area′ cells′ a =
-      Inv L n s (record { area = area′; held = some (record { rec = a .rec; cells = cells′; work = h .work }); cells = m })
+      (K : Layout)
+      × Inv E K n s (record { area = area′; held = some (record { rec = a .rec; cells = cells′; work = h .work }); cells = m })
       (feed b (stepEvent lent (a .answer))) (max t (versionTold (stepEvent lent (a .answer))))
-      × EventAgrees L b (stepEvent lent (a .answer))
+      × EventAgrees E b (stepEvent lent (a .answer))
 
   -- ---- refused
 
   refused :
-      (area : List ℕ) (h : Held) (m : Option ℕ) (lent : Lengths) (b : Book) (t : ℕ) (c : Refusal) → Inv L n s (record { area = area; held = some h; cells = m }) b t →
+      (area : List ℕ) (h : Held) (m : Option ℕ) (lent : Lengths) (b : Book) (t : ℕ) (c : Refusal) → Inv E L n s (record { area = area; held = some h; cells = m }) b t →
       StepGoal h m lent b t area (h .cells) (record { answer = StepAnswer.Refused c; rec = h .rec })
   unfolding feed versionTold EventAgrees
   refused area h m lent b t c inv = (
+    L,
     rw (max-zero t, pick-false (eqb (numberOfRefusal c) 0) (feedCall b steps 0) b, refusal-number c) inv,
     λ p. absurd (never (sym p ∙ refusal-number c)),
   )
@@ -65,8 +73,8 @@ module _ (L : Layout) (laws : OperationLaws L) (n s : ℕ) where
 
   -- ---- a step of a started operation
 
-  module _ (area : List ℕ) (h : Held) (m : Option ℕ) (lent : Lengths) (b : Book) (t : ℕ) (inv : Inv L n s (record { area = area; held = some h; cells = m }) b t)
-      (good : Holding L n s area m b h) (st : Started L area (h .rec) (h .work))
+  module _ (area : List ℕ) (h : Held) (m : Option ℕ) (lent : Lengths) (b : Book) (t : ℕ) (inv : Inv E L n s (record { area = area; held = some h; cells = m }) b t)
+      (good : Holding E L n s area m b h) (st : Started L area (h .rec) (h .work))
       (awaited :
       b .pending ≡
       some (record { operation = st .operation; left = storesFor L (st .idle) (logNow (st .before) (st .idle)) (st .operation) - st .since }))
@@ -85,23 +93,47 @@ module _ (L : Layout) (laws : OperationLaws L) (n s : ℕ) where
       cells-idle = ap (λ (x : Record). some (x .cells)) (sym (st .record-now)) ∙ sym (good .cells-same)
 
       -- a record recovered with the store's own geometry is recovered with the run's
-      own : (after : List ℕ) (r : Record) → recovered L (st .idle .slots) (st .idle .size) (st .idle .cells) after ≡ some r → recovered L n s (st .idle .cells) after ≡ some r
-      own after r e = with-geometry L (st .idle .slots) n (st .idle .size) s (st .idle .cells) after (some r) slots-idle size-idle e
+      own : (K : Layout) (after : List ℕ) (r : Record) → recovered K (st .idle .slots) (st .idle .size) (st .idle .cells) after ≡ some r → recovered K n s (st .idle .cells) after ≡ some r
+      own K after r e = with-geometry K (st .idle .slots) n (st .idle .size) s (st .idle .cells) after (some r) slots-idle size-idle e
 
       -- the old area recovers to the idle record, whose log is the one at the start
-      area-recovers : recovered L n s (st .idle .cells) area ≡ some (st .idle)
-      area-recovers = own area (st .idle) (rw (st .area-now) (laws .prefix-recovers (st .before) (st .idle) (st .operation) acc (st .since) (st .some-left)))
+      area-recovers : recovered L n s (st .idle .cells) area ≡ some (unswitched (st .idle))
+      area-recovers = own L area (unswitched (st .idle)) (rw (st .area-now) (laws .prefix-recovers (st .before) (st .idle) (st .operation) acc (st .since) (st .some-left)))
 
       area-log : logNow area (st .idle) ≡ logNow (st .before) (st .idle)
       area-log = rw (st .area-now) (laws .prefix-log (st .before) (st .idle) (st .operation) acc (st .since) (st .some-left))
 
       next-idle : st .idle .next .0 ≡ b .next
-      next-idle = sym (next-of L n s (st .idle .cells) area (st .idle) area-recovers) ∙ inv .agrees .next-same
+      next-idle = sym (next-of L n s (st .idle .cells) area (unswitched (st .idle)) area-recovers) ∙ inv .agrees .next-same
 
       map-idle : (k : Key) → valueAt (logNow (st .before) (st .idle)) k ≡ bookEntry k (b .keys k)
       map-idle k =
-          ap (λ (x : List Placed). valueAt x k) (sym area-log ∙ sym (log-of L n s (st .idle .cells) area (st .idle) area-recovers)) ∙
+          ap (λ (x : List Placed). valueAt x k) (sym area-log ∙ sym (log-of L n s (st .idle .cells) area (unswitched (st .idle)) area-recovers)) ∙
           inv .agrees .map-same k
+
+      -- the slots of the log were of editions that they may have when the operation was started
+      idle-among : SlotsAmong E n s (st .before) (st .idle .map)
+      idle-among i l q =
+          subst (Among E)
+          (ap (λ (a : List ℕ). viewsOf a s i .layout) (st .area-now) ∙
+          subst
+          (λ (k : ℕ).
+          viewsOf (stored (st .before) (take (st .since) (planAt L (st .before) (st .idle) (st .operation)))) k i .layout ≡ viewsOf (st .before) k i .layout)
+          size-idle (laws .prefix-slots (st .before) (st .idle) (st .operation) acc (st .since) (st .some-left) i q))
+          (inv .agrees .slots-among i l
+          (ap (λ (x : Record). named (x .map) i) (sym (recovered-is L n s (st .idle .cells) area (unswitched (st .idle)) area-recovers)) ∙ q))
+
+      idle-edition : st .idle .edition ≡ L
+      idle-edition = recovered-edition L n s (st .idle .cells) area (unswitched (st .idle)) area-recovers
+
+      -- and so would be a new head
+      new-among : Among E (newLayout (st .idle))
+      unfolding pick
+      new-among = go (st .idle .switched) refl
+        where
+          go : (x : Bool) → st .idle .switched ≡ x → Among E (pick x edition2 (st .idle .edition))
+          go true e = inr (good .switch (ap (λ (y : Record). y .switched) (st .record-now) ∙ e), refl)
+          go false e = subst⁻¹ (Among E) idle-edition (inv .agrees .own-among)
 
       -- the area after one more store
       abbrev after : List ℕ
@@ -123,7 +155,7 @@ module _ (L : Layout) (laws : OperationLaws L) (n s : ℕ) where
       unfolding feed feedCall takeOne pick
       book-left stores version = ap (takeOne b) awaited ∙ ap (oneOff b (st .operation)) one-less
 
-      agrees-with : (a : StepAnswer) → stepSaid a .stores ≡ left → (left ≡ 0 → stepSaid a .version ≡ versionFor b (st .operation)) → EventAgrees L b (stepEvent lent a)
+      agrees-with : (a : StepAnswer) → stepSaid a .stores ≡ left → (left ≡ 0 → stepSaid a .version ≡ versionFor b (st .operation)) → EventAgrees E b (stepEvent lent a)
       unfolding EventAgrees StepAgrees
       agrees-with a e v _ =
           subst⁻¹ (λ (x : Option Awaited). StepAgrees b (stepSaid a) x) awaited (e ∙ sym one-less, λ p. v (omega (arith, one-less, p)))
@@ -132,11 +164,12 @@ module _ (L : Layout) (laws : OperationLaws L) (n s : ℕ) where
       goes-on : (k : ℕ) → left ≡ suc k → StepGoal h m lent b t after (h .cells) (record { answer = StepAnswer.Left (suc k); rec = withPending (st .idle) (laid L (st .idle) (logNow (st .before) (st .idle)) (st .operation) .pending (suc k)) })
       unfolding oneOff HeldGood versionTold
       goes-on k e = (
+        L,
         rw
             (book-left (suc k) 0, max-zero t, e)
-            (subst (λ (c : Option ℕ). Inv L n s (record { area = after; held = some held′; cells = c }) b′ t) cells-idle
-            (rebuilt L n s (st .idle .cells) after (st .idle) (some held′) b′ t bytes′ recovers′ next-idle
-            (λ j. ap (λ (x : List Placed). valueAt x j) log′ ∙ map-idle j) (inv .below) holding′)),
+            (subst (λ (c : Option ℕ). Inv E L n s (record { area = after; held = some held′; cells = c }) b′ t) cells-idle
+            (rebuilt E L n s (st .idle .cells) after (unswitched (st .idle)) (some held′) b′ t bytes′ recovers′ next-idle
+            (λ j. ap (λ (x : List Placed). valueAt x j) log′ ∙ map-idle j) (inv .agrees .own-among) slots′ (inv .below) holding′)),
         agrees-with (StepAnswer.Left (suc k)) (sym e) (λ z. absurd (omega (arith, e, z))),
       )
         where
@@ -157,17 +190,27 @@ module _ (L : Layout) (laws : OperationLaws L) (n s : ℕ) where
           bytes′ : Bytes after
           bytes′ = laws .plan-bytes (st .before) (st .idle) (st .operation) acc (suc (st .since))
 
-          own-recovers : recovered L (st .idle .slots) (st .idle .size) (st .idle .cells) after ≡ some (st .idle)
+          -- every slot of the log is as it was
+          slots′ : SlotsAmong E n s after (st .idle .map)
+          slots′ i l q =
+              subst⁻¹ (Among E)
+              (subst
+              (λ (x : ℕ).
+              viewsOf (stored (st .before) (take (suc (st .since)) (planAt L (st .before) (st .idle) (st .operation)))) x i .layout ≡ viewsOf (st .before) x i .layout)
+              size-idle (laws .prefix-slots (st .before) (st .idle) (st .operation) acc (suc (st .since)) more i q))
+              (idle-among i l q)
+
+          own-recovers : recovered L (st .idle .slots) (st .idle .size) (st .idle .cells) after ≡ some (unswitched (st .idle))
           own-recovers = laws .prefix-recovers (st .before) (st .idle) (st .operation) acc (suc (st .since)) more
 
-          recovers′ : recovered L n s (st .idle .cells) after ≡ some (st .idle)
-          recovers′ = own after (st .idle) own-recovers
+          recovers′ : recovered L n s (st .idle .cells) after ≡ some (unswitched (st .idle))
+          recovers′ = own L after (unswitched (st .idle)) own-recovers
 
           log′ : logNow after (st .idle) ≡ logNow (st .before) (st .idle)
           log′ = laws .prefix-log (st .before) (st .idle) (st .operation) acc (suc (st .since)) more
 
           idle′ : st .idle .pending ≡ Idle
-          idle′ = idle-of L n s (st .idle .cells) area (st .idle) area-recovers
+          idle′ = idle-of L n s (st .idle .cells) area (unswitched (st .idle)) area-recovers
 
           rule-idle : IndexRule (st .idle .size) (logNow area (st .idle)) (h .cells)
           rule-idle = subst (λ (x : Record). IndexRule (x .size) (logNow area x) (h .cells)) (st .record-now) (good .genuine .rule)
@@ -190,7 +233,7 @@ module _ (L : Layout) (laws : OperationLaws L) (n s : ℕ) where
                 work-now = st .work-now;
               }
 
-          holding′ : Holding L n s after (some (st .idle .cells)) b′ held′
+          holding′ : Holding E L n s after (some (st .idle .cells)) b′ held′
           holding′ =
               record {
                 slots-same = slots-idle;
@@ -203,19 +246,21 @@ module _ (L : Layout) (laws : OperationLaws L) (n s : ℕ) where
                       rule = subst (λ (x : List Placed). IndexRule (st .idle .size) x (h .cells)) (area-log ∙ sym log′) rule-idle;
                     };
                 phase = pending started′ (ap (λ (x : ℕ). some (record { operation = st .operation; left = x })) (sym e));
+                switch = λ q. good .switch (ap (λ (x : Record). x .switched) (st .record-now) ∙ q);
               }
 
       -- the last: the record, the map and the index of the finished operation
       ends : (cells′ : List ℕ) → length cells′ ≡ length (h .cells) → left ≡ 0 → IndexRule (finishedRecord L (st .before) (st .idle) (st .operation) .size) (logNow after (finishedRecord L (st .before) (st .idle) (st .operation))) cells′ → StepGoal h m lent b t after cells′ (record { answer = StepAnswer.Done (record { 0 = toldVersion (st .idle) (st .operation) }); rec = finishedRecord L (st .before) (st .idle) (st .operation) })
       unfolding oneOff HeldGood versionTold
       ends cells′ long e rule = (
+        fin .edition,
         rw
             (book-left 0 (toldVersion (st .idle) (st .operation)), e)
-            (subst (λ (c : Option ℕ). Inv L n s (record { area = after; held = some held′; cells = c }) b′ t′) cells-idle
-            (rebuilt L n s (st .idle .cells) after fin (some held′) b′ t′ bytes′ recovers′
+            (subst (λ (c : Option ℕ). Inv E (fin .edition) n s (record { area = after; held = some held′; cells = c }) b′ t′) cells-idle
+            (rebuilt E (fin .edition) n s (st .idle .cells) after (unswitched fin) (some held′) b′ t′ bytes′ recovers′
             (finished-next L (st .before) (st .idle) b next-idle (st .operation))
             (λ j. ap (λ (x : List ℕ). valueAt (logNow x fin) j) all-stored ∙ laws .finish-map (st .before) (st .idle) (st .operation) acc j ∙ finished-map L (st .before) (st .idle) b next-idle (st .operation) (valueAt (logNow (st .before) (st .idle))) map-idle j)
-            told′ holding′)),
+            fin-among slots′ told′ holding′)),
         agrees-with (StepAnswer.Done (record { 0 = toldVersion (st .idle) (st .operation) })) (sym e) (λ z. told-same L (st .before) (st .idle) b next-idle (st .operation)),
       )
         where
@@ -239,13 +284,30 @@ module _ (L : Layout) (laws : OperationLaws L) (n s : ℕ) where
           bytes′ : Bytes after
           bytes′ = laws .plan-bytes (st .before) (st .idle) (st .operation) acc (suc (st .since))
 
-          own-recovers : recovered L (st .idle .slots) (st .idle .size) (st .idle .cells) after ≡ some fin
+          -- the head's edition then, and the slots of the log
+          fin-among : Among E (fin .edition)
+          fin-among =
+              elim (finished-edition L (st .before) (st .idle) (st .operation)) [
+                | inl same ↦ subst⁻¹ (Among E) (same ∙ idle-edition) (inv .agrees .own-among)
+                | inr new ↦ subst⁻¹ (Among E) new new-among
+              ]
+
+          slots′ : SlotsAmong E n s after (fin .map)
+          slots′ i l q =
+              elim
+              (subst (λ (x : ℕ). SlotOrigin (st .idle) (viewsOf (st .before) x) (viewsOf (stored (st .before) (planAt L (st .before) (st .idle) (st .operation))) x) (fin .edition) i)
+              size-idle (laws .finish-slots (st .before) (st .idle) (st .operation) acc i (omega (arith, slots-idle, l)) q)) [
+                | inl own ↦ subst⁻¹ (Among E) (ap (λ (a : List ℕ). viewsOf a s i .layout) all-stored ∙ own) fin-among
+                | inr old ↦ subst⁻¹ (Among E) (ap (λ (a : List ℕ). viewsOf a s i .layout) all-stored ∙ old .1) (idle-among i l (old .0))
+              ]
+
+          own-recovers : recovered (fin .edition) (st .idle .slots) (st .idle .size) (st .idle .cells) after ≡ some (unswitched fin)
           own-recovers =
-              ap (recovered L (st .idle .slots) (st .idle .size) (st .idle .cells)) all-stored ∙
+              ap (recovered (fin .edition) (st .idle .slots) (st .idle .size) (st .idle .cells)) all-stored ∙
               laws .finish-recovers (st .before) (st .idle) (st .operation) acc
 
-          recovers′ : recovered L n s (st .idle .cells) after ≡ some fin
-          recovers′ = own after fin own-recovers
+          recovers′ : recovered (fin .edition) n s (st .idle .cells) after ≡ some (unswitched fin)
+          recovers′ = own (fin .edition) after (unswitched fin) own-recovers
 
           told′ : t′ < b′ .next
           told′ =
@@ -256,18 +318,18 @@ module _ (L : Layout) (laws : OperationLaws L) (n s : ℕ) where
               )
 
           fin-slots : fin .slots ≡ n
-          fin-slots = slots-of L n s (st .idle .cells) after fin recovers′
+          fin-slots = slots-of (fin .edition) n s (st .idle .cells) after (unswitched fin) recovers′
 
           fin-size : fin .size ≡ s
-          fin-size = size-of L n s (st .idle .cells) after fin recovers′
+          fin-size = size-of (fin .edition) n s (st .idle .cells) after (unswitched fin) recovers′
 
           fin-cells : fin .cells ≡ st .idle .cells
-          fin-cells = cells-of L n s (st .idle .cells) after fin recovers′
+          fin-cells = cells-of (fin .edition) n s (st .idle .cells) after (unswitched fin) recovers′
 
           idle′ : fin .pending ≡ Idle
-          idle′ = idle-of L n s (st .idle .cells) after fin recovers′
+          idle′ = idle-of (fin .edition) n s (st .idle .cells) after (unswitched fin) recovers′
 
-          holding′ : Holding L n s after (some (st .idle .cells)) b′ held′
+          holding′ : Holding E (fin .edition) n s after (some (st .idle .cells)) b′ held′
           holding′ =
               record {
                 slots-same = fin-slots;
@@ -276,10 +338,14 @@ module _ (L : Layout) (laws : OperationLaws L) (n s : ℕ) where
                 index-long = long ∙ good .index-long ∙ ap (λ (x : Record). x .cells) (st .record-now) ∙ sym fin-cells;
                 genuine =
                     record {
-                      recovers = own-geometry L n s (st .idle .cells) after fin recovers′ ∙ ap some (sym (idle-same fin idle′));
+                      recovers = own-geometry (fin .edition) n s (st .idle .cells) after (unswitched fin) recovers′ ∙ ap some (sym (idle-same fin idle′));
                       rule = rule;
                     };
                 phase = idle idle′ (finish-idle b (st .operation));
+                switch =
+                    λ q.
+                    good .switch
+                    (ap (λ (x : Record). x .switched) (st .record-now) ∙ sym (finished-switch L (st .before) (st .idle) (st .operation)) ∙ q);
               }
 
       -- whichever store it is
@@ -306,7 +372,7 @@ module _ (L : Layout) (laws : OperationLaws L) (n s : ℕ) where
   pub step-keeps :
       (area area′ cells′ work : List ℕ) (h : Held) (m : Option ℕ) (a : Stepped) (b : Book) (t : ℕ) →
       (isPending (h .rec .pending) ≡ true → work ≡ h .work) → StepPromise L (h .rec) area area′ (h .cells) cells′ work a →
-      Inv L n s (record { area = area; held = some h; cells = m }) b t → StepGoal h m (lentLengths area (h .cells) work) b t area′ cells′ a
+      Inv E L n s (record { area = area; held = some h; cells = m }) b t → StepGoal h m (lentLengths area (h .cells) work) b t area′ cells′ a
   unfolding HeldGood isPending
   step-keeps area area′ cells′ work h m a b t own-work p inv = go cause refl
     where

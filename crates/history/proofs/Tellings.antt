@@ -12,6 +12,7 @@ use Rattle.segment.specs.Layout.{Layout, entrySize}
 use Rattle.segment.specs.declared.Key.{Key}
 use Rattle.record.specs.Refusals.{numberOfRefusal}
 use Rattle.record.specs.declared.Foretold.{Foretold}
+use Rattle.record.specs.Switch.{newLayout}
 use Rattle.record.specs.declared.Record.{Record}
 use Rattle.record.specs.declared.Refusal.{Refusal}
 use Rattle.record.specs.declared.Refusal.the-variants.{BadRecord, WorkShort, NonePending}
@@ -23,6 +24,7 @@ use Rattle.model.specs.Refused.{Lengths, recordBad, workShort, isPending, tellC
 use Rattle.model.specs.Promises.{Started, tellLengths, TellPromise}
 use Rattle.laws.specs.CauseLaws.{cause-first, cause-skip, cause-none, refusal-number}
 use Rattle.history.specs.Book.{tells, asks, Answer, telling, called, accepted, Book, feed, versionTold}
+use Rattle.history.specs.Editions.{Editions}
 use Rattle.history.specs.Runs.{Held}
 use Rattle.history.specs.Demand3.{TellAgrees, QuestionAgrees, EventAgrees}
 use Rattle.history.proofs.Invariant.{Inv, Phase, idle, pending}
@@ -74,17 +76,17 @@ laid-pending : (L : Layout) (r : Record) (log : List Placed) (o : Operation) (k 
 unfolding laid pick isPending
 laid-pending L r log o k = go o
   where
-    entry : (t : Bool) (e : Entry) → isPending (pick t (laidAppend L e) (laidHead L r e) .pending k) ≡ true
+    entry : (t : Bool) (e : Entry) → isPending (pick t (laidAppend L e) (laidHead (newLayout r) r e) .pending k) ≡ true
     entry true e = refl
     entry false e = refl
 
-    gone : (t : Bool) (j : Key) → isPending (pick t (laidForget L r log j) (laidEntry L r (tombstoneEntry r j)) .pending k) ≡ true
+    gone : (t : Bool) (j : Key) → isPending (pick t (laidForget (newLayout r) r log j) (laidEntry L r (tombstoneEntry r j)) .pending k) ≡ true
     gone true j = refl
     gone false j = entry (fitsHead L r (tombstoneEntry r j)) (tombstoneEntry r j)
 
     go : (o : Operation) → isPending (laid L r log o .pending k) ≡ true
     go (write j value) = entry (fitsHead L r (writtenEntry r j value)) (writtenEntry r j value)
-    go (delete j) = gone (noRoom r (entrySize L 0)) j
+    go (delete j) = gone (noRoom L r (entrySize L 0)) j
     go (clean victims) = refl
 
 pub started-pending : (L : Layout) (area : List ℕ) (r : Record) (work : List ℕ) → Started L area r work → isPending (r .pending) ≡ true
@@ -93,7 +95,7 @@ started-pending L area r work st =
     laid-pending L (st .idle) (logNow (st .before) (st .idle)) (st .operation)
     (storesFor L (st .idle) (logNow (st .before) (st .idle)) (st .operation) - st .since)
 
-module _ (L : Layout) (n s : ℕ) (area work : List ℕ) (h : Held) (m : Option ℕ) (a : Foretold) (b : Book) (t : ℕ)
+module _ (E : Editions) (L : Layout) (n s : ℕ) (area work : List ℕ) (h : Held) (m : Option ℕ) (a : Foretold) (b : Book) (t : ℕ)
     (own : isPending (h .rec .pending) ≡ true → work ≡ h .work) (p : TellPromise L (h .rec) area work a)
   where
     abbrev said : Answer
@@ -123,13 +125,13 @@ module _ (L : Layout) (n s : ℕ) (area work : List ℕ) (h : Held) (m : Option 
 
     -- A question keeps the invariant.
     pub tell-keeps :
-        Inv L n s (record { area = area; held = some h; cells = m }) b t → Phase L area b h → feed b (called (asks tells) (tellLengths area work) said) ≡ b →
-        Inv L n s (record { area = area; held = some h; cells = m }) (feed b (called (asks tells) (tellLengths area work) said))
+        Inv E L n s (record { area = area; held = some h; cells = m }) b t → Phase L area b h → feed b (called (asks tells) (tellLengths area work) said) ≡ b →
+        Inv E L n s (record { area = area; held = some h; cells = m }) (feed b (called (asks tells) (tellLengths area work) said))
         (max t (versionTold (called (asks tells) (tellLengths area work) said)))
-        × EventAgrees L b (called (asks tells) (tellLengths area work) said)
+        × EventAgrees E b (called (asks tells) (tellLengths area work) said)
     unfolding versionTold EventAgrees QuestionAgrees
     tell-keeps inv phase same = (
-      subst⁻¹ (λ (x : Book). Inv L n s (record { area = area; held = some h; cells = m }) x (max t (said .said .version))) same
-          (subst⁻¹ (λ (v : ℕ). Inv L n s (record { area = area; held = some h; cells = m }) b (max t v)) (no-version (a .answer)) (rw (max-zero t) inv)),
+      subst⁻¹ (λ (x : Book). Inv E L n s (record { area = area; held = some h; cells = m }) x (max t (said .said .version))) same
+          (subst⁻¹ (λ (v : ℕ). Inv E L n s (record { area = area; held = some h; cells = m }) b (max t v)) (no-version (a .answer)) (rw (max-zero t) inv)),
       told-agrees phase,
     )

@@ -29,11 +29,12 @@ pub data Question : Type 0 where
   scansValue : ℕ → ℕ → Tables → Key → Question
   converts : ℕ → ℕ → Question
 
--- A call on the store with its arguments: a start (write, delete or clean) on some terms, a step, a question, a recovery with N, S
--- and the order list.
+-- A call on the store with its arguments: a start (write, delete or clean) on some terms, a step, the switch to the second edition (02,
+-- R-13), a question, a recovery with N, S and the order list.
 pub data Call : Type 0 where
   starts : Terms → Operation → Call
   steps : Call
+  switches : Call
   asks : Question → Call
   recovers : ℕ → ℕ → List ℕ → Call
 
@@ -129,10 +130,11 @@ takeOne b none = b
 takeOne b (some p) = oneOff b (p .operation) (p .left - 1)
 
 -- What an accepted call does to the book, given a start's number of stores: a start is pending with its stores, whatever its terms
--- were; a step takes one off; a recovery drops what is pending. Questions change nothing.
+-- were; a step takes one off; a recovery drops what is pending. Questions change nothing, and neither does a switch.
 unfoldable pub feedCall : Book → Call → ℕ → Book
 feedCall b (starts t o) stores = record { keys = b .keys; next = b .next; pending = some (record { operation = o; left = stores }) }
 feedCall b steps stores = takeOne b (b .pending)
+feedCall b switches stores = b
 feedCall b (asks q) stores = b
 feedCall b (recovers n s order) stores = withoutPending b
 

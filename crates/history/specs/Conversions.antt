@@ -16,26 +16,29 @@ use Rattle.model.specs.Promises.{FormatPromise, RecoverPromise}
 use Rattle.model.specs.Recovery.{orderBad, imageLayout}
 use Rattle.history.specs.Book.{Event, Book, bookAfter, bookOf, highestTold}
 use Rattle.history.specs.Demand3.{LargeEnough, GivesBook, EventsAgree}
+use Rattle.history.specs.Editions.{Editions, Among, formattedIn, editionsBehind}
 use Rattle.history.specs.Runs.{World, freshWorld, Run}
 
 -- Recovery by the rules of use, of a world's area, gives that book.
-abbrev pub RecoversTo : Layout → ℕ → ℕ → World → Book → Type 0
-RecoversTo L n s w b =
+abbrev pub RecoversTo : Editions → ℕ → ℕ → World → Book → Type 0
+RecoversTo E n s w b =
     (order cells cells′ : List ℕ) (r : Recovery) → orderBad n order ≡ false → LargeEnough (w .cells) (length cells) →
-    RecoverPromise (imageLayout n s (w .area)) n s order (w .area) cells cells′ r → GivesBook L (w .area) cells′ r b
+    RecoverPromise (imageLayout n s (w .area)) n s order (w .area) cells cells′ r → GivesBook E (w .area) cells′ r b
 
 -- A world is that of a store with that book, and told is the highest version told so far: recovery gives the book, and whatever is done
 -- there from now on agrees with the book as it goes on.
-pub record StoreWith (L : Layout) (n s : ℕ) (w : World) (b : Book) (told : ℕ) : Type 0 where
-  pub recovery : RecoversTo L n s w b
-  pub later : (es : List Event) (x : World) → Run n s w es x → RecoversTo L n s x (bookAfter b es)
+pub record StoreWith (E : Editions) (n s : ℕ) (w : World) (b : Book) (told : ℕ) : Type 0 where
+  pub recovery : RecoversTo E n s w b
+  pub later : (es : List Event) (x : World) → Run n s w es x → RecoversTo (editionsBehind E es) n s x (bookAfter b es)
   pub above-told : (es : List Event) (x : World) → Run n s w es x → max told (highestTold es) < bookAfter b es .next
-  pub agrees : (es : List Event) (x : World) → Run n s w es x → EventsAgree L b es
+  pub agrees : (es : List Event) (x : World) → Run n s w es x → EventsAgree E b es
 
 -- For every run from an accepted format on, and an accepted conversion of the area that it leaves: nothing is held of the second buffer, and
--- an index as large as at the last accepted recovery of the first will do.
+-- an index as large as at the last accepted recovery of the first will do. The edition of the second is the one that the first's head did
+-- not have: the format's other one, where no switch was accepted.
 abbrev pub ConversionKeepsBook : Layout → Type 0
 ConversionKeepsBook L =
     (n s : ℕ) (area₀ area : List ℕ) → Bytes area₀ → FormatPromise (numberOfLayout L) n s area₀ area FormatAnswer.Formatted → (es : List Event) (w : World) →
     Run n s (freshWorld area) es w → (target target′ : List ℕ) → ConvertPromise n s (w .area) target target′ ConvertAnswer.Converted →
-    StoreWith (otherLayout L) n s (record { area = target′; held = none; cells = w .cells }) (bookOf es) (highestTold es)
+    (K : Layout) × Among (editionsBehind (formattedIn L) es) K
+    × StoreWith (formattedIn (otherLayout K)) n s (record { area = target′; held = none; cells = w .cells }) (bookOf es) (highestTold es)

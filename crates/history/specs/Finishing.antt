@@ -9,7 +9,7 @@ use Rattle.segment.specs.Choice.{both}
 use Rattle.segment.specs.declared.Key.{Key}
 use Rattle.model.specs.Log.{sameKeys}
 use Rattle.model.specs.Operations.{Operation, write, delete, clean}
-use Rattle.history.specs.Book.{starts, steps, asks, recovers, Answer, Event, called, cut, accepted, Awaited, Book, feed}
+use Rattle.history.specs.Book.{starts, steps, switches, asks, recovers, Answer, Event, called, cut, accepted, Awaited, Book, feed}
 
 -- a write of that key
 unfoldable pub isWriteOf : Key → Operation → Bool
@@ -26,6 +26,7 @@ lastOfWrite k (some p) = both (eqb (p .left - 1) 0) (isWriteOf k (p .operation))
 unfoldable pub finishesWrite : Book → Event → Key → Bool
 finishesWrite b (called (starts t o) lent a) k = false
 finishesWrite b (called steps lent a) k = both (accepted a) (lastOfWrite k (b .pending))
+finishesWrite b (called switches lent a) k = false
 finishesWrite b (called (asks q) lent a) k = false
 finishesWrite b (called (recovers n s order) lent a) k = false
 finishesWrite b cut k = false
@@ -46,6 +47,7 @@ pub record Finishes (b : Book) (a : Answer) : Type 0 where
 unfoldable pub goesOn : Event → Bool
 goesOn (called (starts t o) lent a) = not (accepted a)
 goesOn (called steps lent a) = true
+goesOn (called switches lent a) = true
 goesOn (called (asks q) lent a) = true
 goesOn (called (recovers n s order) lent a) = not (accepted a)
 goesOn cut = false

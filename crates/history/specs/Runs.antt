@@ -21,6 +21,8 @@ use Rattle.record.specs.declared.Reading.{Reading}
 use Rattle.record.specs.declared.ReadAnswer.{ReadAnswer}
 use Rattle.record.specs.declared.Start.{Start}
 use Rattle.record.specs.declared.Stepped.{Stepped}
+use Rattle.record.specs.Switch.{switchSaid}
+use Rattle.record.specs.declared.Switching.{Switching}
 use Rattle.record.specs.declared.Tables.{Tables}
 use Rattle.record.specs.declared.Fewest.{Fewest}
 use Rattle.model.specs.Fewest.{FewestPromise, noLengths}
@@ -28,10 +30,11 @@ use Rattle.model.specs.Operations.{Operation, Typed, TypedKey}
 use Rattle.model.specs.Recovery.{imageLayout}
 use Rattle.model.specs.Refused.{Lengths, Terms, isPending}
 use Rattle.model.specs.Promises.{RecoverPromise, readLengths, ReadPromise, Part, partOf, ValuePromise, lentLengths, StartPromise, StepPromise, tellLengths, TellPromise}
-use Rattle.history.specs.Book.{Question, reads, readsValue, tells, fewest, starts, steps, asks, recovers, Answer, saying, giving, telling, naming, Event, called, cut, accepted, scans, scansValue, converts, joins, pairing}
+use Rattle.history.specs.Book.{Question, reads, readsValue, tells, fewest, starts, steps, switches, asks, recovers, Answer, saying, giving, telling, naming, Event, called, cut, accepted, scans, scansValue, converts, joins, pairing}
 use Rattle.model.specs.Scanned.{ScanPromise, ScanValue}
 use Rattle.model.specs.Joining.{JoinPromise}
 use Rattle.model.specs.Conversion.{ConvertPromise}
+use Rattle.model.specs.Switching.{SwitchPromise}
 
 -- What the firmware holds from an accepted recovery to the next cut: the newest record, the index of that recovery, and the work
 -- buffer that the last accepted start filled.
@@ -115,6 +118,11 @@ pub data Moves (n s : ℕ) : World → Event → World → Type 0 where
       Moves n s (record { area = area; held = some h; cells = m })
       (called steps (lentLengths area (h .cells) work) (saying (stepSaid (a .answer))))
       (record { area = area′; held = some (record { rec = a .rec; cells = cells′; work = h .work }); cells = m })
+  -- the switch to the second edition, which changes the record alone
+  switch :
+      {area : List ℕ} {h : Held} {m : Option ℕ} {a : Switching} → SwitchPromise (h .rec .edition) (h .rec) a →
+      Moves n s (record { area = area; held = some h; cells = m }) (called switches noLengths (saying (switchSaid (a .answer))))
+      (record { area = area; held = some (record { rec = a .rec; cells = h .cells; work = h .work }); cells = m })
   -- a question, which leaves all as it was
   ask : {w : World} {q : Question} {lent : Lengths} {a : Answer} → Asked w q lent a → Moves n s w (called (asks q) lent a) w
   -- a read by scan or a conversion with the N and S of the format, which also leaves all as it was: before the first recovery, during an

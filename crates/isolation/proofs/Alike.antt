@@ -16,7 +16,7 @@ use Rattle.record.specs.declared.Refusal.the-variants.{BadOrder}
 use Rattle.record.specs.declared.Record.{Record}
 use Rattle.model.specs.Log.{View, Head, Placed, viewsOf, newer, headOf, logOf, endOf, isDamaged, keysOf, versionShared, highest}
 use Rattle.model.specs.Causes.{Cause, when, firstCause}
-use Rattle.model.specs.Recovery.{headElse, hasNumber, sharing, namesNoDigest, otherEdition, logDamaged, logSlots, logUnder, recordUnder, imageCauses, keyCauses, lentCauses, orderBad, recoverCauses, recordFrom, recovered, recovery}
+use Rattle.model.specs.Recovery.{headElse, hasNumber, sharing, namesNoDigest, later, laterEdition, otherEdition, imageLayout, logDamaged, logSlots, logUnder, recordUnder, imageCauses, keyCauses, lentCauses, orderBad, recoverCauses, recordFrom, recovered, recovery}
 use Rattle.model.specs.Operations.{logNow}
 use Rattle.model.specs.Counts.{countsOf}
 use Rattle.laws.specs.LogLaws.{log-same}
@@ -60,13 +60,26 @@ module _ (of : ℕ → Bool) (v v′ : ℕ → View) where
       ap (λ (t : Bool). either t (both (p n) (isNone (v n .digest)))) (names-alike p n (λ i l. d i (omega arith))) ∙
       ap (λ (x : Option Digest). either (namesNoDigest v′ p n) (both (p n) (isNone x))) (d n (omega arith))
 
-  editions-alike :
+  later-alike :
+      (L : Layout) (p : ℕ → Bool) (n : ℕ) → ((i : ℕ) → i < n → p i ≡ true → v i .layout ≡ v′ i .layout) →
+      laterEdition L v p n ≡ laterEdition L v′ p n
+  unfolding laterEdition both
+  later-alike L p zero f = refl
+  later-alike L p (suc n) f =
+      ap (λ (t : Bool). either t (both (p n) (later (v n .layout) L))) (later-alike L p n (λ i l. f i (omega arith))) ∙
+      ap (either (laterEdition L v′ p n)) (go (p n) refl)
+    where
+      go : (t : Bool) → p n ≡ t → both t (later (v n .layout) L) ≡ both t (later (v′ n .layout) L)
+      go true e = ap (λ (K : Layout). later K L) (f n (omega arith) e)
+      go false e = refl
+
+  pub other-alike :
       (L : Layout) (p : ℕ → Bool) (n : ℕ) → ((i : ℕ) → i < n → p i ≡ true → v i .layout ≡ v′ i .layout) →
       otherEdition L v p n ≡ otherEdition L v′ p n
   unfolding otherEdition both
-  editions-alike L p zero f = refl
-  editions-alike L p (suc n) f =
-      ap (λ (t : Bool). either t (both (p n) (not (sameLayout (v n .layout) L)))) (editions-alike L p n (λ i l. f i (omega arith))) ∙
+  other-alike L p zero f = refl
+  other-alike L p (suc n) f =
+      ap (λ (t : Bool). either t (both (p n) (not (sameLayout (v n .layout) L)))) (other-alike L p n (λ i l. f i (omega arith))) ∙
       ap (either (otherEdition L v′ p n)) (go (p n) refl)
     where
       go : (t : Bool) → p n ≡ t → both t (not (sameLayout (v n .layout) L)) ≡ both t (not (sameLayout (v′ n .layout) L))
@@ -116,7 +129,7 @@ module _ (of : ℕ → Bool) (v v′ : ℕ → View) (n : ℕ) (h : Head) (a : A
         e,
         sharing-alike of v v′ (h .digest .number .0) n (a .digests),
         names-alike of v v′ (logSlots h) n (a .digests),
-        editions-alike of v v′ L (logSlots h) n (a .layouts),
+        later-alike of v v′ L (logSlots h) n (a .layouts),
         damaged-alike of v v′ (logSlots h) n (a .scans),
         shared,
       )
@@ -199,6 +212,13 @@ module _ (of : ℕ → Bool) (L : Layout) (n s : ℕ) (area area′ : List ℕ) 
   unfolding recovery
   recoveries-same m k order r e =
       rw (causes-alike of L n s area area′ (recordFrom L n s 16 area .map) a refl k order, records-same m k r e)
+
+  -- The head's slot is of one edition in both.
+  pub layouts-same : (m : ℕ) (r : Record) → recovered L n s m area ≡ some r → imageLayout n s area ≡ imageLayout n s area′
+  layouts-same m r e =
+      let h = head-inside L n s m area r e in
+      a .views .layouts (headElse (headOf (viewsOf area s) n) .slot) (h .0) (h .1) ∙
+      ap (λ (o : Option Head). viewsOf area′ s (headElse o .slot) .layout) (head-alike of (viewsOf area s) (viewsOf area′ s) n (a .views .digests))
 
   pub first-same : (k : ℕ) (order : List ℕ) → firstCause (recoverCauses L n s k order area) ≡ firstCause (recoverCauses L n s k order area′)
   first-same k order = ap firstCause (causes-alike of L n s area area′ (recordFrom L n s 16 area .map) a refl k order)

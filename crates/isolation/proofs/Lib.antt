@@ -6,6 +6,7 @@ pub mod Operations
 pub mod Pair
 pub mod PairStarts
 pub mod PairSteps
+pub mod PairSwitches
 pub mod PairReads
 pub mod PairTells
 pub mod PairScans

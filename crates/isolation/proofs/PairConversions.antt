@@ -1,4 +1,5 @@
--- Conversions in two worlds that differ in hidden values alone: 29 goes by lengths and 30 by versions, which no value's bytes change (02, R-12).
+-- Conversions in two worlds that differ in hidden values alone: 28 goes by editions, 29 by lengths
+-- and 30 by versions, which no value's bytes change (02, R-12, R-13).
 use Prim.Native.Nat.{ℕ, zero, suc, _+_, _<_}
 use native.Mathlib.Omega.{arith}
 use mathlib.Core.Path.{_≡_, refl, sym, ap, ap₂, _∙_}
@@ -15,16 +16,16 @@ use Rattle.segment.specs.declared.Digest.{Digest}
 use Rattle.record.specs.Answers.{taken, saidBy, convertSaid}
 use Rattle.record.specs.declared.ConvertAnswer.{ConvertAnswer}
 use Rattle.record.specs.declared.Refusal.{Refusal}
-use Rattle.record.specs.declared.Refusal.the-variants.{Geometry}
+use Rattle.record.specs.declared.Refusal.the-variants.{Geometry, MixedEditions}
 use Rattle.model.specs.Log.{View, Item, Scan, Head, viewsOf, headOf, itemsOf}
-use Rattle.model.specs.Causes.{Cause, when, firstCause}
-use Rattle.model.specs.Recovery.{headElse, logSlots, imageLayout, geometryBad, recovered, recordFrom}
+use Rattle.model.specs.Causes.{when, firstCause}
+use Rattle.model.specs.Recovery.{headElse, logSlots, imageLayout, otherEdition, geometryBad, recovered, recordFrom}
 use Rattle.model.specs.Operations.{allEncoded}
 use Rattle.model.specs.Conversion.{entriesIn, slotBytes, rewritten, slotTooLong, versionTooWide, nextTooWide, slotTooWide, targetLayout, imageSlots, fitCauses, convertCauses, ConvertPromise}
 use Rattle.laws.specs.RecoverLaws.{recovered-image}
 use Rattle.history.proofs.Scannings.{convert-first}
 use Rattle.isolation.proofs.Hidden.{hidden, hiddenItem, hiddenScan, scan-items, encoded-hidden}
-use Rattle.isolation.proofs.Alike.{AlikeViews, Alike, head-alike}
+use Rattle.isolation.proofs.Alike.{AlikeViews, Alike, head-alike, other-alike}
 
 module _ (of : ℕ → Bool) where
   -- ---- entries
@@ -102,16 +103,10 @@ module _ (of : ℕ → Bool) where
 module _ (of : ℕ → Bool) (L : Layout) (n s m m′ : ℕ) (area area′ : List ℕ) (base : recovered L n s m area ≡ some (recordFrom L n s m area))
     (base′ : recovered L n s m′ area′ ≡ some (recordFrom L n s m′ area′)) (alike : Alike of n s (recordFrom L n s 16 area .map) area area′)
   where
-    abbrev left : Layout → (ℕ → View) → Option Head → ℕ → Option Refusal
-    left K v h long = firstCause (when (geometryBad n s long) Geometry ∷ fitCauses K v (logSlots (headElse h)) s n)
-
     causes-same : (long : ℕ) → firstCause (convertCauses n s area long) ≡ firstCause (convertCauses n s area′ long)
     causes-same long =
         convert-first L n s m area (recordFrom L n s m area) base long ∙
-        ap (λ (K : Layout). left (otherLayout K) v (headOf v n) long) layouts ∙
-        ap (λ (c : List Cause). firstCause (when (geometryBad n s long) Geometry ∷ c))
-        (fit-alike of (targetLayout n s area′) v v′ (imageSlots n s area) s n (alike .views)) ∙
-        ap (λ (h : Option Head). left (targetLayout n s area′) v′ h long) (head-alike of v v′ n (alike .views .digests)) ∙
+        (λ i. firstCause (when (geometryBad n s long) Geometry ∷ (when (mixed-same i) MixedEditions ∷ fits-same i))) ∙
         sym (convert-first L n s m′ area′ (recordFrom L n s m′ area′) base′ long)
       where
         v : ℕ → View
@@ -122,6 +117,21 @@ module _ (of : ℕ → Bool) (L : Layout) (n s m m′ : ℕ) (area area′ : Lis
 
         layouts : imageLayout n s area ≡ imageLayout n s area′
         layouts = recovered-image L n s m area (recordFrom L n s m area) base ∙ sym (recovered-image L n s m′ area′ (recordFrom L n s m′ area′) base′)
+
+        heads : headOf v n ≡ headOf v′ n
+        heads = head-alike of v v′ n (alike .views .digests)
+
+        mixed-same : otherEdition (imageLayout n s area) v (imageSlots n s area) n ≡ otherEdition (imageLayout n s area′) v′ (imageSlots n s area′) n
+        mixed-same =
+            ap (λ (K : Layout). otherEdition K v (imageSlots n s area) n) layouts ∙
+            other-alike of v v′ (imageLayout n s area′) (imageSlots n s area) n (alike .views .layouts) ∙
+            ap (λ (h : Option Head). otherEdition (imageLayout n s area′) v′ (logSlots (headElse h)) n) heads
+
+        fits-same : fitCauses (targetLayout n s area) v (imageSlots n s area) s n ≡ fitCauses (targetLayout n s area′) v′ (imageSlots n s area′) s n
+        fits-same =
+            ap (λ (K : Layout). fitCauses (otherLayout K) v (imageSlots n s area) s n) layouts ∙
+            fit-alike of (targetLayout n s area′) v v′ (imageSlots n s area) s n (alike .views) ∙
+            ap (λ (h : Option Head). fitCauses (targetLayout n s area′) v′ (logSlots (headElse h)) s n) heads
 
     -- Conversions into memory of one length answer the same.
     pub convert-both :

@@ -12,11 +12,11 @@ use Rattle.segment.specs.Choice.{pick, both, isNone}
 use Rattle.segment.specs.Layout.{Layout, digestSize}
 use Rattle.segment.specs.Entry.{bytesIn, isTombstone, keyOf}
 use Rattle.segment.specs.declared.Key.{Key}
-use Rattle.record.specs.Answers.{readSaid, withPending}
+use Rattle.record.specs.Answers.{readSaid}
 use Rattle.slot_map.specs.Bit.{named}
 use Rattle.record.specs.Pairs.{joinSaid}
+use Rattle.record.specs.Switch.{newLayout, asRecovered}
 use Rattle.record.specs.declared.Joined.{Joined}
-use Rattle.record.specs.declared.Pending.the-variants.{Idle}
 use Rattle.record.specs.declared.Reading.{Reading}
 use Rattle.record.specs.declared.ReadAnswer.{ReadAnswer}
 use Rattle.record.specs.declared.Refusal.{Refusal}
@@ -137,7 +137,7 @@ module _ (of : ℕ → Bool) (L : Layout) (laws : OperationLaws L) (area area′
         partOf ar (valuePart (r .size) o) ≡ valueIn o
     unfolding valuePart valueIn
     value-at ar ce ab x none e = refl
-    value-at ar ce ab x (some y) e = laws .value-part ar (withPending r Idle) ab (x .recovers) k y e
+    value-at ar ce ab x (some y) e = laws .value-part ar (asRecovered r) ab (x .recovers) k y e
 
     -- The value is the same where its table is not hidden, and where none is given.
     pub value-both :
@@ -166,18 +166,18 @@ module _ (of : ℕ → Bool) (L : Layout) (area area′ cells cells′ : List �
     (alike : Alike of (r .slots) (r .size) (r .map) area area′) (g : Genuine L area r cells) (g′ : Genuine L area′ r cells′)
     (lent : readLengths area cells ≡ readLengths area′ cells′)
   where
-    kept-long : (victims : ℕ) → keptLength L (logNow area r) victims ≡ keptLength L (logNow area′ r) victims
-    kept-long victims =
-        sym (kept-long-hidden of of L (logNow area r) victims) ∙
-        ap (λ (l : List Placed). keptLength L l victims) (logs-same of r area area′ alike) ∙
-        kept-long-hidden of of L (logNow area′ r) victims
+    kept-long : (W : Layout) (victims : ℕ) → keptLength W (logNow area r) victims ≡ keptLength W (logNow area′ r) victims
+    kept-long W victims =
+        sym (kept-long-hidden of of W (logNow area r) victims) ∙
+        ap (λ (l : List Placed). keptLength W l victims) (logs-same of r area area′ alike) ∙
+        kept-long-hidden of of W (logNow area′ r) victims
 
-    pairs-same : joinPair L r (logNow area r) ≡ joinPair L r (logNow area′ r)
+    pairs-same : joinPair r (logNow area r) ≡ joinPair r (logNow area′ r)
     unfolding joinFits
     pairs-same =
         λ t.
         lowestPair
-        (λ i j. both (both (named (r .map) i) (named (r .map) j)) (not (ltb (r .size) (digestSize L + kept-long (pairOf i j) t))))
+        (λ i j. both (both (named (r .map) i) (named (r .map) j)) (not (ltb (r .size) (digestSize (newLayout r) + kept-long (newLayout r) (pairOf i j) t))))
         (r .slots)
 
     pub join-both : (a a′ : Joined) → JoinPromise L r area cells a → JoinPromise L r area′ cells′ a′ → joinSaid (a .answer) ≡ joinSaid (a′ .answer)

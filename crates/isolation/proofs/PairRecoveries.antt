@@ -28,6 +28,19 @@ unfolding recoveryFor
 recovery-idle none r e = e
 recovery-idle (some c) r e = refl
 
+-- whatever it answers, the area stays
+pub recovered-area : (w : World) (cells′ : List ℕ) (r : Recovery) → recoveredWorld w cells′ r .area ≡ w .area
+unfolding pick
+recovered-area w cells′ r = go (accepted (saying (recoverSaid (r .answer)))) (eqb (recoverSaid (r .answer) .refused) 20)
+  where
+    go :
+        (t u : Bool) →
+        pick t (record { area = w .area; held = some (record { rec = r .rec; cells = cells′; work = [] }); cells = some (length cells′) })
+        (pick u (record { area = w .area; held = none; cells = w .cells }) w) .area ≡ w .area
+    go true u = refl
+    go false true = refl
+    go false false = refl
+
 module _ (of : ℕ → Bool) (L : Layout) (n s : ℕ) (w w′ : World) (p : Pair of L n s w w′) where
   pub cut-both :
       Pair of L n s (record { area = w .area; held = none; cells = w .cells }) (record { area = w′ .area; held = none; cells = w′ .cells })

@@ -13,7 +13,7 @@ use Rattle.segment.specs.Choice.{pick, pick-false}
 use Rattle.segment.specs.Layout.{Layout}
 use Rattle.record.specs.Answers.{startSaid, withPending}
 use Rattle.record.specs.Refusals.{numberOfRefusal}
-use Rattle.record.specs.declared.Pending.the-variants.{Idle}
+use Rattle.record.specs.Switch.{unswitched, asRecovered}
 use Rattle.record.specs.declared.Refusal.{Refusal}
 use Rattle.record.specs.declared.Start.{Start}
 use Rattle.record.specs.declared.StartAnswer.{StartAnswer}
@@ -28,9 +28,9 @@ use Rattle.laws.specs.CauseLaws.{refusal-number}
 use Rattle.laws.specs.Passed.{StartPassed, start-passed}
 use Rattle.laws.specs.Starts.{freely-accepted}
 use Rattle.laws.specs.Operated.{Accepted}
-use Rattle.laws.specs.Entering.{Roomy}
-use Rattle.laws.specs.OperationsKept.{operation-laws}
+use Rattle.laws.specs.OperationsKept.{edition-laws}
 use Rattle.history.specs.Book.{Book}
+use Rattle.history.specs.Editions.{Editions}
 use Rattle.history.specs.Runs.{Held, heldAfter}
 use Rattle.history.proofs.Invariant.{Holding, recovered-is, with-geometry, idle-same}
 use Rattle.history.proofs.Starts.{not-pending}
@@ -41,26 +41,26 @@ use Rattle.isolation.proofs.Pair.{Half, half-first, running, HeldPair}
 
 -- ---- alike under the record that is held
 
-module _ (of : ℕ → Bool) (L : Layout) (n s : ℕ) where
+module _ (of : ℕ → Bool) (E : Editions) (L : Layout) (n s : ℕ) where
   pub held-recovers :
-      (area : List ℕ) (m : Option ℕ) (b : Book) (h : Held) → Holding L n s area m b h →
-      recovered L n s (h .rec .cells) area ≡ some (withPending (h .rec) Idle)
+      (area : List ℕ) (m : Option ℕ) (b : Book) (h : Held) → Holding E L n s area m b h →
+      recovered L n s (h .rec .cells) area ≡ some (asRecovered (h .rec))
   held-recovers area m b h good =
-      with-geometry L (h .rec .slots) n (h .rec .size) s (h .rec .cells) area (some (withPending (h .rec) Idle)) (good .slots-same) (good .size-same)
+      with-geometry L (h .rec .slots) n (h .rec .size) s (h .rec .cells) area (some (asRecovered (h .rec))) (good .slots-same) (good .size-same)
       (good .genuine .recovers)
 
   pub held-alike :
-      (area area′ : List ℕ) (m : Option ℕ) (b : Book) (h : Held) → Holding L n s area m b h → Alike of n s (recordFrom L n s 16 area .map) area area′ →
+      (area area′ : List ℕ) (m : Option ℕ) (b : Book) (h : Held) → Holding E L n s area m b h → Alike of n s (recordFrom L n s 16 area .map) area area′ →
       Alike of (h .rec .slots) (h .rec .size) (h .rec .map) area area′
   held-alike area area′ m b h good a =
       subst (λ (k : ℕ). Alike of k (h .rec .size) (h .rec .map) area area′) (sym (good .slots-same))
       (subst (λ (k : ℕ). Alike of n k (h .rec .map) area area′) (sym (good .size-same))
       (subst (λ (k : ℕ). Alike of n s k area area′)
-      (sym (ap (λ (x : Record). x .map) (recovered-is L n s (h .rec .cells) area (withPending (h .rec) Idle) (held-recovers area m b h good)))) a))
+      (sym (ap (λ (x : Record). x .map) (recovered-is L n s (h .rec .cells) area (asRecovered (h .rec)) (held-recovers area m b h good)))) a))
 
 -- ---- the two ways of a start
 
-module _ (of any : ℕ → Bool) (L : Layout) (roomy : Roomy L) (area area′ : List ℕ) (h h′ : Held) (q : Terms) (o o′ : Operation) (work work′ : List ℕ) where
+module _ (of any : ℕ → Bool) (L : Layout) (area area′ : List ℕ) (h h′ : Held) (q : Terms) (o o′ : Operation) (work work′ : List ℕ) where
   abbrev pub StartBoth : Begun → Begun → Type 0
   StartBoth x x′ =
       HeldPair of L area area′ (heldAfter h (x .work) (x .start)) (heldAfter h′ (x′ .work) (x′ .start))
@@ -107,10 +107,10 @@ module _ (of any : ℕ → Bool) (L : Layout) (roomy : Roomy L) (area area′ : 
             before′ = area′;
             operation = o;
             operation′ = o′;
-            one = half-first L (operation-laws L roomy) area (h .rec) work o acc long;
+            one = half-first L (edition-laws L) area (h .rec) work o acc long;
             other =
                 subst⁻¹ (λ (x : Record). Half L area′ x (sets work′ 0 (laid L (h .rec) log′ o′ .bytes)) (h .rec) 0 area′ o′) records
-                (half-first L (operation-laws L roomy) area′ (h .rec) work′ o′ acc′ long′);
+                (half-first L (edition-laws L) area′ (h .rec) work′ o′ acc′ long′);
             alike = a;
             same = same;
           });
@@ -183,5 +183,5 @@ module _ (of any : ℕ → Bool) (L : Layout) (roomy : Roomy L) (area area′ : 
           long : h .rec .size ≤ length work
           long = ltb-false (length work) (h .rec .size) (led .work-long)
 
-          recovers : (l cells : List ℕ) → Genuine L l (h .rec) cells → recovered L (h .rec .slots) (h .rec .size) (h .rec .cells) l ≡ some (h .rec)
+          recovers : (l cells : List ℕ) → Genuine L l (h .rec) cells → recovered L (h .rec .slots) (h .rec .size) (h .rec .cells) l ≡ some (unswitched (h .rec))
           recovers l cells x = x .recovers ∙ ap some (idle-same (h .rec) (not-pending (h .rec .pending) (led .idle)))

@@ -10,23 +10,24 @@ use lib.Seq.{take-all}
 use borrow.Author.Tests.{not-false}
 use Rattle.segment.specs.Layout.{Layout}
 use Rattle.record.specs.Answers.{stepSaid, withPending}
+use Rattle.record.specs.Switch.{unswitched, asRecovered}
 use Rattle.record.specs.declared.Refusal.{Refusal}
 use Rattle.record.specs.declared.Stepped.{Stepped}
 use Rattle.record.specs.declared.StepAnswer.{StepAnswer}
 use Rattle.record.specs.declared.Record.{Record}
 use Rattle.model.specs.Log.{Placed}
 use Rattle.model.specs.Causes.{firstCause}
-use Rattle.model.specs.Recovery.{recovered, recordFrom}
+use Rattle.model.specs.Recovery.{imageLayout, recovered, recordFrom}
 use Rattle.model.specs.Operations.{Operation, write, delete, clean, logNow, laid, planFor, stored, finishedRecord, toldVersion}
 use Rattle.model.specs.Refused.{Lengths, isPending, stepCauses}
 use Rattle.model.specs.Promises.{Genuine, StepPromise, StepExact, stepped, lentLengths}
 use Rattle.laws.specs.Members.{clash}
 use Rattle.laws.specs.Passed.{step-passed}
 use Rattle.laws.specs.Operated.{OperationLaws}
-use Rattle.laws.specs.Entering.{Roomy}
-use Rattle.laws.specs.OperationsKept.{operation-laws}
+use Rattle.laws.specs.OperationsKept.{edition-laws}
+use Rattle.laws.specs.RecoverLaws.{recovered-image}
 use Rattle.history.specs.Runs.{Held}
-use Rattle.history.proofs.Invariant.{recovered-is, idle-of}
+use Rattle.history.proofs.Invariant.{recovered-is, idle-of, with-geometry}
 use Rattle.isolation.proofs.Hidden.{hiddenLog}
 use Rattle.isolation.proofs.Alike.{Alike, logs-same}
 use Rattle.isolation.proofs.Operations.{hiddenOperation, pending-same, stores-same, cut-alike, done-alike, finished-same}
@@ -47,12 +48,19 @@ as-found of L n n′ s s′ m area area′ r p q e a =
     (subst (λ (k : ℕ). Alike of n k (recordFrom L n k 16 area .map) area area′) q
     (subst (λ (k : ℕ). Alike of n s k area area′) (ap (λ (x : Record). x .map) (recovered-is L n s m area r e)) a))
 
-module _ (of : ℕ → Bool) (L : Layout) (roomy : Roomy L) (n s : ℕ) (h h′ : Held) where
-  -- what is to be shown of a step that leaves these areas and cells and answers so
+-- and the head's slot is of the edition in which recovery is accepted
+own-image :
+    (L : Layout) (n n′ s s′ m : ℕ) (area : List ℕ) (r : Record) → n ≡ n′ → s ≡ s′ → recovered L n s m area ≡ some r → imageLayout n′ s′ area ≡ L
+own-image L n n′ s s′ m area r p q e = recovered-image L n′ s′ m area r (with-geometry L n n′ s s′ m area (some r) p q e)
+
+module _ (of : ℕ → Bool) (L : Layout) (n s : ℕ) (h h′ : Held) where
+  -- What is to be shown of a step that leaves these areas and cells and answers so. A last step may leave a head of another edition
+  -- (02, R-13).
   abbrev pub StepBoth : List ℕ → List ℕ → Stepped → List ℕ → List ℕ → Stepped → Type 0
   StepBoth area cells a area′ cells′ a′ =
       Alike of n s (recordFrom L n s 16 area .map) area area′
-      × HeldPair of L area area′ (record { rec = a .rec; cells = cells; work = h .work }) (record { rec = a′ .rec; cells = cells′; work = h′ .work })
+      × ((K : Layout) → imageLayout n s area ≡ K →
+      HeldPair of K area area′ (record { rec = a .rec; cells = cells; work = h .work }) (record { rec = a′ .rec; cells = cells′; work = h′ .work }))
       × (stepSaid (a .answer) ≡ stepSaid (a′ .answer))
 
   -- ---- one store of a pending operation
@@ -61,7 +69,7 @@ module _ (of : ℕ → Bool) (L : Layout) (roomy : Roomy L) (n s : ℕ) (h h′ 
       (cells cells′ : List ℕ) (long : length cells ≡ length cells′)
     where
       laws : OperationLaws L
-      laws = operation-laws L roomy
+      laws = edition-laws L
 
       abbrev log : List Placed
       log = logNow (x .before) (x .idle)
@@ -103,33 +111,41 @@ module _ (of : ℕ → Bool) (L : Layout) (roomy : Roomy L) (n s : ℕ) (h h′ 
           Goal (stepped L (x .before) (x .idle) (x .operation) (suc k)) (stepped L (x .before′) (x .idle) (x .operation′) (suc k))
       unfolding stepped
       goes-on k e = (
-        as-found of L (x .idle .slots) n (x .idle .size) s (x .idle .cells) after after′ (x .idle) idle-slots idle-size
-            (laws .prefix-recovers (x .before) (x .idle) (x .operation) (x .one .begun) (suc (x .since)) (omega (arith, e)))
-            (cut-alike of L roomy (x .before) (x .before′) (x .idle) (x .operation) (x .operation′) (x .one .begun) (x .other .begun) (x .alike) (x .same)
+        as-found of L (x .idle .slots) n (x .idle .size) s (x .idle .cells) after after′ (unswitched (x .idle)) idle-slots idle-size recovers
+            (cut-alike of L (x .before) (x .before′) (x .idle) (x .operation) (x .operation′) (x .one .begun) (x .other .begun) (x .alike) (x .same)
             (suc (x .since)) (omega (arith, e)) (omega (arith, e, stores))),
-        record {
-          rec-same = records;
-          index-long = long;
-          phase =
-              running
-              (record {
-                idle = x .idle;
-                since = suc (x .since);
-                before = x .before;
-                before′ = x .before′;
-                operation = x .operation;
-                operation′ = x .operation′;
-                one = half-next (x .one) k e;
-                other =
-                    subst⁻¹ (λ (r : Record). Half L after′ r (h′ .work) (x .idle) (suc (x .since)) (x .before′) (x .operation′)) records
-                    (half-next (x .other) k (ap (λ (j : ℕ). j - suc (x .since)) (sym stores) ∙ e));
-                alike = x .alike;
-                same = x .same;
-              });
-        },
+        λ K own.
+            subst (λ (M : Layout). HeldPair of M after after′ (now log (x .operation) cells (h .work)) (now log′ (x .operation′) cells′ (h′ .work)))
+            (sym (own-image L (x .idle .slots) n (x .idle .size) s (x .idle .cells) after (unswitched (x .idle)) idle-slots idle-size recovers) ∙ own)
+            (record {
+              rec-same = records;
+              index-long = long;
+              phase =
+                  running
+                  (record {
+                    idle = x .idle;
+                    since = suc (x .since);
+                    before = x .before;
+                    before′ = x .before′;
+                    operation = x .operation;
+                    operation′ = x .operation′;
+                    one = half-next (x .one) k e;
+                    other =
+                        subst⁻¹ (λ (r : Record). Half L after′ r (h′ .work) (x .idle) (suc (x .since)) (x .before′) (x .operation′)) records
+                        (half-next (x .other) k (ap (λ (j : ℕ). j - suc (x .since)) (sym stores) ∙ e));
+                    alike = x .alike;
+                    same = x .same;
+                  });
+            }),
         refl,
       )
         where
+          now : List Placed → Operation → List ℕ → List ℕ → Held
+          now l o c w = record { rec = withPending (x .idle) (laid L (x .idle) l o .pending (suc k)); cells = c; work = w }
+
+          recovers : recovered L (x .idle .slots) (x .idle .size) (x .idle .cells) after ≡ some (unswitched (x .idle))
+          recovers = laws .prefix-recovers (x .before) (x .idle) (x .operation) (x .one .begun) (suc (x .since)) (omega (arith, e))
+
           records :
               withPending (x .idle) (laid L (x .idle) log (x .operation) .pending (suc k)) ≡
               withPending (x .idle) (laid L (x .idle) log′ (x .operation′) .pending (suc k))
@@ -142,15 +158,16 @@ module _ (of : ℕ → Bool) (L : Layout) (roomy : Roomy L) (n s : ℕ) (h h′ 
           Goal (stepped L (x .before) (x .idle) (x .operation) 0) (stepped L (x .before′) (x .idle) (x .operation′) 0)
       unfolding stepped
       ends e = (
-        as-found of L (x .idle .slots) n (x .idle .size) s (x .idle .cells) after after′ fin idle-slots idle-size recovers
+        as-found of (fin .edition) (x .idle .slots) n (x .idle .size) s (x .idle .cells) after after′ (unswitched fin) idle-slots idle-size recovers
             (subst⁻¹ (λ (l : List ℕ). Alike of (x .idle .slots) (x .idle .size) (fin .map) l after′) whole
             (subst⁻¹ (λ (l : List ℕ). Alike of (x .idle .slots) (x .idle .size) (fin .map) (stored (x .before) plan) l) whole′
-            (done-alike of L roomy (x .before) (x .before′) (x .idle) (x .operation) (x .operation′) (x .one .begun) (x .other .begun) (x .alike) (x .same)))),
-        record {
-          rec-same = finished-same of L roomy (x .before) (x .before′) (x .idle) (x .operation) (x .operation′) (x .one .begun) (x .other .begun) (x .alike) (x .same);
-          index-long = long;
-          phase = resting (idle-of L (x .idle .slots) (x .idle .size) (x .idle .cells) after fin recovers);
-        },
+            (done-alike of L (x .before) (x .before′) (x .idle) (x .operation) (x .operation′) (x .one .begun) (x .other .begun) (x .alike) (x .same)))),
+        λ K own.
+            record {
+              rec-same = finished-same of L (x .before) (x .before′) (x .idle) (x .operation) (x .operation′) (x .one .begun) (x .other .begun) (x .alike) (x .same);
+              index-long = long;
+              phase = resting (idle-of (fin .edition) (x .idle .slots) (x .idle .size) (x .idle .cells) after (unswitched fin) recovers);
+            },
         ap (λ (v : ℕ). stepSaid (StepAnswer.Done (record { 0 = v })))
             (sym (told-hidden of (x .idle) (x .operation)) ∙ ap (toldVersion (x .idle)) (x .same) ∙ told-hidden of (x .idle) (x .operation′)),
       )
@@ -164,9 +181,9 @@ module _ (of : ℕ → Bool) (L : Layout) (roomy : Roomy L) (n s : ℕ) (h h′ 
           whole′ : after′ ≡ stored (x .before′) plan′
           whole′ = ap (stored (x .before′)) (take-all (suc (x .since)) plan′ (omega (arith, e, stores)))
 
-          recovers : recovered L (x .idle .slots) (x .idle .size) (x .idle .cells) after ≡ some fin
+          recovers : recovered (fin .edition) (x .idle .slots) (x .idle .size) (x .idle .cells) after ≡ some (unswitched fin)
           recovers =
-              ap (recovered L (x .idle .slots) (x .idle .size) (x .idle .cells)) whole ∙
+              ap (recovered (fin .edition) (x .idle .slots) (x .idle .size) (x .idle .cells)) whole ∙
               laws .finish-recovers (x .before) (x .idle) (x .operation) (x .one .begun)
 
       whichever :
@@ -223,7 +240,10 @@ module _ (of : ℕ → Bool) (L : Layout) (roomy : Roomy L) (n s : ℕ) (h h′ 
           (subst⁻¹ (λ (y : Stepped). StepBoth area cells₁ y area′ cells₁′ a′) (one .answers)
           (subst⁻¹ (λ (y : Stepped). StepBoth area cells₁ (record { answer = StepAnswer.Refused c; rec = h .rec }) area′ cells₁′ y) (other .answers) (
             alike,
-            record { rec-same = refl; index-long = promise .same-length ∙ p .index-long ∙ sym (promise′ .same-length); phase = p .phase },
+            λ K image.
+                subst (λ (M : Layout). HeldPair of M area area′ (record { rec = h .rec; cells = cells₁; work = h .work }) (record { rec = h .rec; cells = cells₁′; work = h′ .work }))
+                (sym (own-image L (h .rec .slots) n (h .rec .size) s (h .rec .cells) area (asRecovered (h .rec)) slots size (g .recovers)) ∙ image)
+                (record { rec-same = refl; index-long = promise .same-length ∙ p .index-long ∙ sym (promise′ .same-length); phase = p .phase }),
             refl,
           ))))
       go none e = by-phase (p .phase)

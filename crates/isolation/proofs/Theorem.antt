@@ -11,7 +11,7 @@ use Rattle.segment.specs.Choice.{pick, pick-true, both-true, either-true-left, 
 use Rattle.segment.specs.Layout.{Layout}
 use Rattle.segment.specs.declared.Key.{Key}
 use Rattle.record.specs.declared.Record.{Record}
-use Rattle.model.specs.Recovery.{recordFrom}
+use Rattle.model.specs.Recovery.{imageLayout, recordFrom}
 use Rattle.model.specs.Operations.{Operation, write, delete, clean, logNow}
 use Rattle.record.specs.declared.Tables.{Tables}
 use Rattle.model.specs.Log.{Placed}
@@ -24,26 +24,30 @@ use Rattle.model.specs.Scanned.{ScanPromise, ScanValue}
 use Rattle.laws.specs.CauseLaws.{no-cause}
 use Rattle.laws.specs.Members.{clash}
 use Rattle.laws.specs.Starts.{StartInside, start-inside}
-use Rattle.laws.specs.Entering.{Roomy}
 use Rattle.laws.specs.Operated.{OperationLaws}
-use Rattle.laws.specs.OperationsKept.{operation-laws, edition-roomy}
-use Rattle.history.specs.Book.{Question, reads, readsValue, tells, fewest, telling, naming, Call, starts, steps, asks, recovers, Answer, saying, giving, Event, called, cut, Book, freshBook, feed, versionTold, scans, scansValue, converts, joins, pairing}
-use Rattle.history.specs.Runs.{World, freshWorld, Asked, read, readValue, tell, least, Moves, start, step, ask, recover, cuts, Run, stop, go, Scanned, scan, scanValue, convert, look, join}
+use Rattle.laws.specs.OperationsKept.{edition-laws}
+use Rattle.laws.specs.RecoverLaws.{recovered-image}
+use Rattle.history.specs.Book.{Question, reads, readsValue, tells, fewest, telling, naming, Call, starts, steps, switches, asks, recovers, Answer, saying, giving, Event, called, cut, Book, freshBook, feed, versionTold, scans, scansValue, converts, joins, pairing}
+use Rattle.history.specs.Editions.{Editions, formattedIn, editionsAfter}
+use Rattle.history.specs.Runs.{World, freshWorld, Asked, read, readValue, tell, least, Moves, start, step, switch, ask, recover, cuts, Run, stop, go, Scanned, scan, scanValue, convert, look, join}
 use Rattle.model.specs.Joining.{JoinPromise}
+use Rattle.model.specs.Switching.{SwitchPromise}
 use Rattle.history.proofs.Invariant.{Inv, HeldGood, baseCells, held-promise, area-promise}
 use Rattle.history.proofs.Theorem.{move-keeps, fresh}
 use Rattle.isolation.specs.Owners.{Owner, servo, media, blankedOperation, blanked, SameCall, SameInput, SameInputs, SameNumbers, SameToServo, SameAnswer, SameAnswers, sameOwner, startRange, rangeOf, rangeHolds, gives}
-use Rattle.isolation.specs.Isolation.{IsolationFor, Isolation}
+use Rattle.isolation.specs.Isolation.{Isolation}
 use Rattle.isolation.proofs.Hidden.{zeroed}
+use Rattle.isolation.proofs.Alike.{layouts-same}
 use Rattle.isolation.proofs.Operations.{hiddenOperation}
 use Rattle.isolation.proofs.Pair.{HeldBoth, Pair}
 use Rattle.isolation.proofs.PairStarts.{held-alike, start-both}
 use Rattle.isolation.proofs.PairSteps.{step-both}
+use Rattle.isolation.proofs.PairSwitches.{switch-both}
 use Rattle.isolation.proofs.PairScans.{scan-inside, scan-both, scan-value-both}
 use Rattle.isolation.proofs.PairConversions.{convert-both}
 use Rattle.isolation.proofs.PairReads.{read-both, value-both, join-both}
 use Rattle.isolation.proofs.PairTells.{tell-both}
-use Rattle.isolation.proofs.PairRecoveries.{cut-both, recover-both}
+use Rattle.isolation.proofs.PairRecoveries.{recovered-area, cut-both, recover-both}
 
 -- ---- what the same input says
 
@@ -52,10 +56,11 @@ unfolding SameCall
 blanked-same servo c c′ e = cc
 blanked-same media c c′ e = e
 
--- Two calls that are the same but for value bytes are both starts, both steps, the same question or the same recovery.
+-- Two calls that are the same but for value bytes are both starts, both steps, both switches, the same question or the same recovery.
 data SameKind : Call → Call → Type 0 where
   both-start : (q q′ : Terms) (o o′ : Operation) → q ≡ q′ → blankedOperation o ≡ blankedOperation o′ → SameKind (starts q o) (starts q′ o′)
   both-step : SameKind steps steps
+  both-switch : SameKind switches switches
   both-ask : (q q′ : Question) → q ≡ q′ → SameKind (asks q) (asks q′)
   both-recover : (n n′ s s′ : ℕ) (order order′ : List ℕ) → order ≡ order′ → SameKind (recovers n s order) (recovers n′ s′ order′)
 
@@ -64,6 +69,7 @@ unfolding blanked
 same-kind (starts q o) (starts q′ o′) e =
     let terms : q ≡ q′ = cc in let blank : blankedOperation o ≡ blankedOperation o′ = cc in both-start q q′ o o′ terms blank
 same-kind steps steps e = both-step
+same-kind switches switches e = both-switch
 same-kind (asks q) (asks q′) e = both-ask q q′ cc
 same-kind (recovers n s order) (recovers n′ s′ order′) e = both-recover n n′ s s′ order order′ cc
 same-kind (starts q o) steps e = let z : _≡_ {A = ℕ} 0 1 = cc in absurd (omega arith)
@@ -78,12 +84,21 @@ same-kind (asks q) (recovers n s order) e = let z : _≡_ {A = ℕ} 0 1 = cc in 
 same-kind (recovers n s order) (starts q o) e = let z : _≡_ {A = ℕ} 0 1 = cc in absurd (omega arith)
 same-kind (recovers n s order) steps e = let z : _≡_ {A = ℕ} 0 1 = cc in absurd (omega arith)
 same-kind (recovers n s order) (asks q) e = let z : _≡_ {A = ℕ} 0 1 = cc in absurd (omega arith)
+same-kind (starts q o) switches e = let z : _≡_ {A = ℕ} 0 1 = cc in absurd (omega arith)
+same-kind steps switches e = let z : _≡_ {A = ℕ} 0 1 = cc in absurd (omega arith)
+same-kind (asks q) switches e = let z : _≡_ {A = ℕ} 0 1 = cc in absurd (omega arith)
+same-kind (recovers n s order) switches e = let z : _≡_ {A = ℕ} 0 1 = cc in absurd (omega arith)
+same-kind switches (starts q o) e = let z : _≡_ {A = ℕ} 0 1 = cc in absurd (omega arith)
+same-kind switches steps e = let z : _≡_ {A = ℕ} 0 1 = cc in absurd (omega arith)
+same-kind switches (asks q) e = let z : _≡_ {A = ℕ} 0 1 = cc in absurd (omega arith)
+same-kind switches (recovers n s order) e = let z : _≡_ {A = ℕ} 0 1 = cc in absurd (omega arith)
 
 -- what is the same whole serves either owner
 answer-own : (who : Owner) (c c′ : Call) (l l′ : Lengths) (a : Answer) → SameAnswer who (called c l a) (called c′ l′ a)
 unfolding SameAnswer SameToServo
 answer-own servo (starts q o) c′ l l′ a = refl
 answer-own servo steps c′ l l′ a = refl
+answer-own servo switches c′ l l′ a = refl
 answer-own servo (asks (reads u k)) c′ l l′ a = refl
 answer-own servo (asks (readsValue u k)) c′ l l′ a = refl
 answer-own servo (asks tells) c′ l l′ a = refl
@@ -188,28 +203,28 @@ scanned-by (scan ty p) = refl
 scanned-by (scanValue ty p) = refl
 scanned-by (convert p) = refl
 
-module _ (L : Layout) (roomy : Roomy L) (n s : ℕ) (of : ℕ → Bool) where
+module _ (E E′ : Editions) (L : Layout) (n s : ℕ) (of : ℕ → Bool) where
   laws : OperationLaws L
-  laws = operation-laws L roomy
+  laws = edition-laws L
 
   -- ---- one event in both runs
 
   asked-both :
       {w w′ : World} {q q′ : Question} {l l′ : Lengths} {a a′ : Answer} (b b′ : Book) (t t′ : ℕ) (who : Owner) → Asked w q l a → Asked w′ q′ l′ a′ →
-      Inv L n s w b t → Inv L n s w′ b′ t′ → Pair of L n s w w′ → q ≡ q′ → l ≡ l′ → Covers of who (called (asks q) l a) →
+      Inv E L n s w b t → Inv E′ L n s w′ b′ t′ → Pair of L n s w w′ → q ≡ q′ → l ≡ l′ → Covers of who (called (asks q) l a) →
       SameAnswer who (called (asks q) l a) (called (asks q′) l′ a′)
   unfolding HeldGood HeldBoth
   asked-both b b′ t t′ who (read {area} {h} {m} {v = u} {k} {a} ty p) (read {area = area′} {h = h′} {m = m′} {v = u′} {k = k′} {a = a′} ty′ p′) inv inv′ pair e lent c =
       answer-same who (asks (reads u k)) (asks (reads u′ k′)) (readLengths area (h .cells)) (readLengths area′ (h′ .cells)) _ _
       (ap saying
-      (read-both of L laws area area′ (h .cells) (h′ .cells) (h .rec) (held-alike of L n s area area′ m b h (inv .held) (pair .alike))
+      (read-both of L laws area area′ (h .cells) (h′ .cells) (h .rec) (held-alike of E L n s area area′ m b h (inv .held) (pair .alike))
       (inv .held .genuine)
       (subst⁻¹ (λ (r : Record). Genuine L area′ r (h′ .cells)) (pair .held .rec-same) (inv′ .held .genuine)) lent u k a a′
-      (held-promise L n s area m b h (inv .held) (λ (K : Layout). ReadPromise K (h .rec) area (h .cells) u k a) p)
+      (held-promise E L n s area m b h (inv .held) (λ (K : Layout). ReadPromise K (h .rec) area (h .cells) u k a) p)
       (subst⁻¹ (λ (v : Tables). ReadPromise L (h .rec) area′ (h′ .cells) v k a′) tables
       (subst⁻¹ (λ (j : Key). ReadPromise L (h .rec) area′ (h′ .cells) u′ j a′) keys
       (subst⁻¹ (λ (r : Record). ReadPromise L r area′ (h′ .cells) u′ k′ a′) (pair .held .rec-same)
-      (held-promise L n s area′ m′ b′ h′ (inv′ .held) (λ (K : Layout). ReadPromise K (h′ .rec) area′ (h′ .cells) u′ k′ a′) p′))))))
+      (held-promise E′ L n s area′ m′ b′ h′ (inv′ .held) (λ (K : Layout). ReadPromise K (h′ .rec) area′ (h′ .cells) u′ k′ a′) p′))))))
     where
       tables : u ≡ u′
       tables = cc
@@ -232,24 +247,24 @@ module _ (L : Layout) (roomy : Roomy L) (n s : ℕ) (of : ℕ → Bool) where
       by-owner servo c =
           unfold SameAnswer SameToServo Covers rangeOf rangeHolds in
           ap giving
-          (value-both of L laws area area′ (h .cells) (h′ .cells) (h .rec) (held-alike of L n s area area′ m b h (inv .held) (pair .alike))
+          (value-both of L laws area area′ (h .cells) (h′ .cells) (h .rec) (held-alike of E L n s area area′ m b h (inv .held) (pair .alike))
           (inv .held .genuine)
           (subst⁻¹ (λ (r : Record). Genuine L area′ r (h′ .cells)) (pair .held .rec-same) (inv′ .held .genuine)) lent u k (inv .bytes) (inv′ .bytes) p p′
           (λ e. c (k .table) (read-inside L (h .rec) (logNow area (h .rec)) (readLengths area (h .cells)) u k e))
-          (held-promise L n s area m b h (inv .held) (λ (K : Layout). ValuePromise K (h .rec) area (h .cells) u k p) q)
+          (held-promise E L n s area m b h (inv .held) (λ (K : Layout). ValuePromise K (h .rec) area (h .cells) u k p) q)
           (subst⁻¹ (λ (v : Tables). ValuePromise L (h .rec) area′ (h′ .cells) v k p′) tables
           (subst⁻¹ (λ (j : Key). ValuePromise L (h .rec) area′ (h′ .cells) u′ j p′) keys
           (subst⁻¹ (λ (r : Record). ValuePromise L r area′ (h′ .cells) u′ k′ p′) (pair .held .rec-same)
-          (held-promise L n s area′ m′ b′ h′ (inv′ .held) (λ (K : Layout). ValuePromise K (h′ .rec) area′ (h′ .cells) u′ k′ p′) q′)))))
+          (held-promise E′ L n s area′ m′ b′ h′ (inv′ .held) (λ (K : Layout). ValuePromise K (h′ .rec) area′ (h′ .cells) u′ k′ p′) q′)))))
   asked-both b b′ t t′ who (join {area} {h} {m} {a} p) (join {area = area′} {h = h′} {m = m′} {a = a′} p′) inv inv′ pair e lent c =
       answer-same who (asks joins) (asks joins) (readLengths area (h .cells)) (readLengths area′ (h′ .cells)) _ _
       (ap pairing
-      (join-both of L area area′ (h .cells) (h′ .cells) (h .rec) (held-alike of L n s area area′ m b h (inv .held) (pair .alike))
+      (join-both of L area area′ (h .cells) (h′ .cells) (h .rec) (held-alike of E L n s area area′ m b h (inv .held) (pair .alike))
       (inv .held .genuine)
       (subst⁻¹ (λ (r : Record). Genuine L area′ r (h′ .cells)) (pair .held .rec-same) (inv′ .held .genuine)) lent a a′
-      (held-promise L n s area m b h (inv .held) (λ (K : Layout). JoinPromise K (h .rec) area (h .cells) a) p)
+      (held-promise E L n s area m b h (inv .held) (λ (K : Layout). JoinPromise K (h .rec) area (h .cells) a) p)
       (subst⁻¹ (λ (r : Record). JoinPromise L r area′ (h′ .cells) a′) (pair .held .rec-same)
-      (held-promise L n s area′ m′ b′ h′ (inv′ .held) (λ (K : Layout). JoinPromise K (h′ .rec) area′ (h′ .cells) a′) p′))))
+      (held-promise E′ L n s area′ m′ b′ h′ (inv′ .held) (λ (K : Layout). JoinPromise K (h′ .rec) area′ (h′ .cells) a′) p′))))
   asked-both b b′ t t′ who (join p) (read ty′ p′) inv inv′ pair e lent c = let z : _≡_ {A = ℕ} 0 1 = cc in absurd (omega arith)
   asked-both b b′ t t′ who (join p) (readValue ty′ q′) inv inv′ pair e lent c = let z : _≡_ {A = ℕ} 0 1 = cc in absurd (omega arith)
   asked-both b b′ t t′ who (read ty p) (join p′) inv inv′ pair e lent c = let z : _≡_ {A = ℕ} 0 1 = cc in absurd (omega arith)
@@ -259,8 +274,8 @@ module _ (L : Layout) (roomy : Roomy L) (n s : ℕ) (of : ℕ → Bool) where
   asked-both b b′ t t′ who (tell {area} {work} {h} {m} {a} own p) (tell {area = area′} {work = work′} {h = h′} {m = m′} {a = a′} own′ p′) inv inv′ pair e lent c =
       numbers-same who (tellLengths area work) (tellLengths area′ work′) (telling (a .answer)) (telling (a′ .answer))
       (tell-both of L area area′ work work′ h h′ a a′ (pair .held) lent own own′
-      (held-promise L n s area m b h (inv .held) (λ (K : Layout). TellPromise K (h .rec) area work a) p)
-      (held-promise L n s area′ m′ b′ h′ (inv′ .held) (λ (K : Layout). TellPromise K (h′ .rec) area′ work′ a′) p′))
+      (held-promise E L n s area m b h (inv .held) (λ (K : Layout). TellPromise K (h .rec) area work a) p)
+      (held-promise E′ L n s area′ m′ b′ h′ (inv′ .held) (λ (K : Layout). TellPromise K (h′ .rec) area′ work′ a′) p′))
   asked-both b b′ t t′ who (tell own p) (read ty′ p′) inv inv′ pair e lent c = let z : _≡_ {A = ℕ} 0 1 = cc in absurd (omega arith)
   asked-both b b′ t t′ who (tell own p) (readValue ty′ q′) inv inv′ pair e lent c = let z : _≡_ {A = ℕ} 0 1 = cc in absurd (omega arith)
   asked-both b b′ t t′ who (read ty p) (tell own′ p′) inv inv′ pair e lent c = let z : _≡_ {A = ℕ} 0 1 = cc in absurd (omega arith)
@@ -268,10 +283,10 @@ module _ (L : Layout) (roomy : Roomy L) (n s : ℕ) (of : ℕ → Bool) where
   asked-both b b′ t t′ who (least {area} {h} {m} {a} p) (least {area = area′} {h = h′} {m = m′} {a = a′} p′) inv inv′ pair e lent c =
       answer-same who (asks fewest) (asks fewest) noLengths noLengths (naming (a .answer)) (naming (a′ .answer))
       (ap naming
-      ((held-promise L n s area m b h (inv .held) (λ (K : Layout). FewestPromise K (h .rec) a) p) .answers ∙
+      ((held-promise E L n s area m b h (inv .held) (λ (K : Layout). FewestPromise K (h .rec) a) p) .answers ∙
       sym
       (subst⁻¹ (λ (r : Record). FewestPromise L r a′) (pair .held .rec-same)
-      (held-promise L n s area′ m′ b′ h′ (inv′ .held) (λ (K : Layout). FewestPromise K (h′ .rec) a′) p′) .answers)))
+      (held-promise E′ L n s area′ m′ b′ h′ (inv′ .held) (λ (K : Layout). FewestPromise K (h′ .rec) a′) p′) .answers)))
   asked-both b b′ t t′ who (least p) (read ty′ p′) inv inv′ pair e lent c = let z : _≡_ {A = ℕ} 0 1 = cc in absurd (omega arith)
   asked-both b b′ t t′ who (least p) (readValue ty′ q′) inv inv′ pair e lent c = let z : _≡_ {A = ℕ} 0 1 = cc in absurd (omega arith)
   asked-both b b′ t t′ who (least p) (tell own′ p′) inv inv′ pair e lent c = let z : _≡_ {A = ℕ} 0 1 = cc in absurd (omega arith)
@@ -285,17 +300,17 @@ module _ (L : Layout) (roomy : Roomy L) (n s : ℕ) (of : ℕ → Bool) where
 
   looked-both :
       {w w′ : World} {q q′ : Question} {l l′ : Lengths} {a a′ : Answer} (b b′ : Book) (t t′ : ℕ) (who : Owner) → Scanned n s (w .area) q l a →
-      Scanned n s (w′ .area) q′ l′ a′ → Inv L n s w b t → Inv L n s w′ b′ t′ → Pair of L n s w w′ → q ≡ q′ → l ≡ l′ → Covers of who (called (asks q) l a) →
+      Scanned n s (w′ .area) q′ l′ a′ → Inv E L n s w b t → Inv E′ L n s w′ b′ t′ → Pair of L n s w w′ → q ≡ q′ → l ≡ l′ → Covers of who (called (asks q) l a) →
       SameAnswer who (called (asks q) l a) (called (asks q′) l′ a′)
   looked-both {w} {w′} b b′ t t′ who (scan {v = u} {k} {a} ty p) (scan {v = u′} {k = k′} {a = a′} ty′ p′) inv inv′ pair e lent c =
       answer-same who _ _ _ _ _ _
       (ap saying
       (scan-both of L laws n s (baseCells (w .cells)) (baseCells (w′ .cells)) (w .area) (w′ .area) (inv .bytes) (inv′ .bytes) (inv .base) (inv′ .base)
       (pair .alike) u k a a′
-      (area-promise L n s w b t inv (λ (K : Layout). ScanPromise K n s (w .area) u k a) p)
+      (area-promise E L n s w b t inv (λ (K : Layout). ScanPromise K n s (w .area) u k a) p)
       (subst⁻¹ (λ (v : Tables). ScanPromise L n s (w′ .area) v k a′) tables
       (subst⁻¹ (λ (j : Key). ScanPromise L n s (w′ .area) u′ j a′) keys
-      (area-promise L n s w′ b′ t′ inv′ (λ (K : Layout). ScanPromise K n s (w′ .area) u′ k′ a′) p′)))))
+      (area-promise E′ L n s w′ b′ t′ inv′ (λ (K : Layout). ScanPromise K n s (w′ .area) u′ k′ a′) p′)))))
     where
       tables : u ≡ u′
       tables = cc
@@ -321,10 +336,10 @@ module _ (L : Layout) (roomy : Roomy L) (n s : ℕ) (of : ℕ → Bool) where
           (scan-value-both of L laws n s (baseCells (w .cells)) (baseCells (w′ .cells)) (w .area) (w′ .area) (inv .bytes) (inv′ .bytes) (inv .base)
           (inv′ .base) (pair .alike) u k p p′
           (λ e. c (k .table) (scan-inside L laws n s (baseCells (w .cells)) (w .area) (inv .bytes) (inv .base) u k e))
-          (area-promise L n s w b t inv (λ (K : Layout). ScanValue K n s (w .area) u k p) q)
+          (area-promise E L n s w b t inv (λ (K : Layout). ScanValue K n s (w .area) u k p) q)
           (subst⁻¹ (λ (v : Tables). ScanValue L n s (w′ .area) v k p′) tables
           (subst⁻¹ (λ (j : Key). ScanValue L n s (w′ .area) u′ j p′) keys
-          (area-promise L n s w′ b′ t′ inv′ (λ (K : Layout). ScanValue K n s (w′ .area) u′ k′ p′) q′))))
+          (area-promise E′ L n s w′ b′ t′ inv′ (λ (K : Layout). ScanValue K n s (w′ .area) u′ k′ p′) q′))))
   looked-both {w} {w′} b b′ t t′ who (convert {target} {target′ = target₁} {a} p) (convert {target = target′} {target′ = target₁′} {a = a′} p′) inv inv′ pair e lent c =
       answer-same who _ _ _ _ _ _
       (ap saying
@@ -337,62 +352,85 @@ module _ (L : Layout) (roomy : Roomy L) (n s : ℕ) (of : ℕ → Bool) where
   looked-both b b′ t t′ who (convert p) (scanValue ty′ q′) inv inv′ pair e lent c = let z : _≡_ {A = ℕ} 0 1 = cc in absurd (omega arith)
   looked-both b b′ t t′ who (scanValue ty q) (scan ty′ p′) inv inv′ pair e lent c = let z : _≡_ {A = ℕ} 0 1 = cc in absurd (omega arith)
 
+  -- The worlds that the events leave are a pair, by the edition that the head then has (02, R-13), and they answer the same.
   abbrev Both : Owner → World → World → Event → Event → Type 0
-  Both who x x′ e e′ = Pair of L n s x x′ × SameAnswer who e e′
+  Both who x x′ e e′ = ((K : Layout) → imageLayout n s (x .area) ≡ K → Pair of K n s x x′) × SameAnswer who e e′
+
+  -- it is the one that it had where the area stays
+  stays :
+      {w x x′ : World} (b : Book) (t : ℕ) → Inv E L n s w b t → x .area ≡ w .area → Pair of L n s x x′ → (K : Layout) → imageLayout n s (x .area) ≡ K →
+      Pair of K n s x x′
+  stays {w} {x} {x′} b t inv same pair K image =
+      subst (λ (M : Layout). Pair of M n s x x′)
+      (sym (ap (imageLayout n s) same ∙ recovered-image L n s (baseCells (w .cells)) (w .area) (recordFrom L n s (baseCells (w .cells)) (w .area)) (inv .base)) ∙ image)
+      pair
 
   started :
       {w w′ x x′ : World} {q q′ : Terms} {o o′ : Operation} {l l′ : Lengths} {a a′ : Answer} (b b′ : Book) (t t′ : ℕ) (who : Owner) →
-      Moves n s w (called (starts q o) l a) x → Moves n s w′ (called (starts q′ o′) l′ a′) x′ → Inv L n s w b t → Inv L n s w′ b′ t′ →
+      Moves n s w (called (starts q o) l a) x → Moves n s w′ (called (starts q′ o′) l′ a′) x′ → Inv E L n s w b t → Inv E′ L n s w′ b′ t′ →
       Pair of L n s w w′ → SameCall who (starts q o) (starts q′ o′) → q ≡ q′ → blankedOperation o ≡ blankedOperation o′ → l ≡ l′ →
       Covers of who (called (starts q o) l a) → Both who x x′ (called (starts q o) l a) (called (starts q′ o′) l′ a′)
   unfolding HeldGood HeldBoth
   started b b′ t t′ who (start {area} {work} {work′ = work₁} {h} {m} {q} {o} {a} ty p) (start {area = area′} {work = work′} {work′ = work₁′} {h = h′} {m = m′} {q = q′} {o = o′} {a = a′} ty′ p′) inv inv′ pair same terms blank lent c =
       let all =
-      start-both of any L roomy area area′ h h′ q o o′ work work′ work₁ work₁′ a a′ (inv .bytes) (inv′ .bytes) ty ty′ (pair .held)
-      (held-alike of L n s area area′ m b h (inv .held) (pair .alike)) (inv .held .genuine) (inv′ .held .genuine) lent
+      start-both of any L area area′ h h′ q o o′ work work′ work₁ work₁′ a a′ (inv .bytes) (inv′ .bytes) ty ty′ (pair .held)
+      (held-alike of E L n s area area′ m b h (inv .held) (pair .alike)) (inv .held .genuine) (inv′ .held .genuine) lent
       (any-blanked o ∙ blank ∙ sym (any-blanked o′)) (λ e. hidden-same of who q q′ o o′ _ _ same blank c (start-inside L (h .rec) (logNow area (h .rec)) (lentLengths area (h .cells) work) q o e))
-      (held-promise L n s area m b h (inv .held) (λ (K : Layout). StartPromise K q o (h .rec) area (h .cells) work work₁ a) p)
+      (held-promise E L n s area m b h (inv .held) (λ (K : Layout). StartPromise K q o (h .rec) area (h .cells) work work₁ a) p)
       (subst⁻¹ (λ (x : Terms). StartPromise L x o′ (h′ .rec) area′ (h′ .cells) work′ work₁′ a′) terms
-      (held-promise L n s area′ m′ b′ h′ (inv′ .held) (λ (K : Layout). StartPromise K q′ o′ (h′ .rec) area′ (h′ .cells) work′ work₁′ a′) p′)) in
-      (record { alike = pair .alike; held = all .0 }, answer-same who _ _ _ _ _ _ (ap saying (all .1)))
+      (held-promise E′ L n s area′ m′ b′ h′ (inv′ .held) (λ (K : Layout). StartPromise K q′ o′ (h′ .rec) area′ (h′ .cells) work′ work₁′ a′) p′)) in
+      (stays b t inv refl (record { alike = pair .alike; held = all .0 }), answer-same who _ _ _ _ _ _ (ap saying (all .1)))
 
   stepped-both :
       {w w′ x x′ : World} {l l′ : Lengths} {a a′ : Answer} (b b′ : Book) (t t′ : ℕ) (who : Owner) → Moves n s w (called steps l a) x →
-      Moves n s w′ (called steps l′ a′) x′ → Inv L n s w b t → Inv L n s w′ b′ t′ → Pair of L n s w w′ → l ≡ l′ →
+      Moves n s w′ (called steps l′ a′) x′ → Inv E L n s w b t → Inv E′ L n s w′ b′ t′ → Pair of L n s w w′ → l ≡ l′ →
       Both who x x′ (called steps l a) (called steps l′ a′)
   unfolding HeldGood HeldBoth
   stepped-both b b′ t t′ who (step {area} {area′ = area₁} {cells′ = cells₁} {work} {h} {m} {a} own p) (step {area = area′} {area′ = area₁′} {cells′ = cells₁′} {work = work′} {h = h′} {m = m′} {a = a′} own′ p′) inv inv′ pair lent =
       let all =
-      step-both of L roomy n s h h′ area area′ area₁ area₁′ cells₁ cells₁′ work work′ a a′ (inv .held .slots-same) (inv .held .size-same) (pair .alike)
+      step-both of L n s h h′ area area′ area₁ area₁′ cells₁ cells₁′ work work′ a a′ (inv .held .slots-same) (inv .held .size-same) (pair .alike)
       (pair .held) (inv .held .genuine) (inv′ .held .genuine) lent own own′
-      (held-promise L n s area m b h (inv .held) (λ (K : Layout). StepPromise K (h .rec) area area₁ (h .cells) cells₁ work a) p)
-      (held-promise L n s area′ m′ b′ h′ (inv′ .held) (λ (K : Layout). StepPromise K (h′ .rec) area′ area₁′ (h′ .cells) cells₁′ work′ a′) p′) in
-      (record { alike = all .0; held = all .1 }, answer-same who _ _ _ _ _ _ (ap saying (all .2)))
+      (held-promise E L n s area m b h (inv .held) (λ (K : Layout). StepPromise K (h .rec) area area₁ (h .cells) cells₁ work a) p)
+      (held-promise E′ L n s area′ m′ b′ h′ (inv′ .held) (λ (K : Layout). StepPromise K (h′ .rec) area′ area₁′ (h′ .cells) cells₁′ work′ a′) p′) in
+      (λ K image. record { alike = all .0; held = all .1 K image }, answer-same who _ _ _ _ _ _ (ap saying (all .2)))
+
+  switched-both :
+      {w w′ x x′ : World} {l l′ : Lengths} {a a′ : Answer} (b b′ : Book) (t t′ : ℕ) (who : Owner) → Moves n s w (called switches l a) x →
+      Moves n s w′ (called switches l′ a′) x′ → Inv E L n s w b t → Inv E′ L n s w′ b′ t′ → Pair of L n s w w′ →
+      Both who x x′ (called switches l a) (called switches l′ a′)
+  unfolding HeldGood HeldBoth
+  switched-both b b′ t t′ who (switch {area} {h} {m} {a} p) (switch {area = area′} {h = h′} {m = m′} {a = a′} p′) inv inv′ pair =
+      let all =
+      switch-both of L area area′ h h′ (pair .held) a a′
+      (held-promise E L n s area m b h (inv .held) (λ (K : Layout). SwitchPromise K (h .rec) a) p)
+      (held-promise E′ L n s area′ m′ b′ h′ (inv′ .held) (λ (K : Layout). SwitchPromise K (h′ .rec) a′) p′) in
+      (stays b t inv refl (record { alike = pair .alike; held = all .0 }), answer-same who _ _ _ _ _ _ (ap saying (all .1)))
 
   recovered-both :
       {w w′ x x′ : World} {k k′ j j′ : ℕ} {order order′ : List ℕ} {l l′ : Lengths} {a a′ : Answer} (b b′ : Book) (t t′ : ℕ) (who : Owner) →
-      Moves n s w (called (recovers k j order) l a) x → Moves n s w′ (called (recovers k′ j′ order′) l′ a′) x′ → Inv L n s w b t →
-      Inv L n s w′ b′ t′ → Pair of L n s w w′ → order ≡ order′ → l ≡ l′ →
+      Moves n s w (called (recovers k j order) l a) x → Moves n s w′ (called (recovers k′ j′ order′) l′ a′) x′ → Inv E L n s w b t →
+      Inv E′ L n s w′ b′ t′ → Pair of L n s w w′ → order ≡ order′ → l ≡ l′ →
       Both who x x′ (called (recovers k j order) l a) (called (recovers k′ j′ order′) l′ a′)
   recovered-both b b′ t t′ who (recover {w} {order} {cells} {cells′ = cells₁} {r} p) (recover {w = w′} {order = order′} {cells = cells′} {cells′ = cells₁′} {r = r′} p′) inv inv′ pair same lent =
       let all =
       recover-both of L n s w w′ pair (baseCells (w .cells)) (recordFrom L n s (baseCells (w .cells)) (w .area)) (inv .base) order cells cells′ cells₁ cells₁′
       r r′ lent
-      (area-promise L n s w b t inv (λ (K : Layout). RecoverPromise K n s order (w .area) cells cells₁ r) p)
+      (area-promise E L n s w b t inv (λ (K : Layout). RecoverPromise K n s order (w .area) cells cells₁ r) p)
       (subst⁻¹ (λ (l : List ℕ). RecoverPromise L n s l (w′ .area) cells′ cells₁′ r′) same
-      (area-promise L n s w′ b′ t′ inv′ (λ (K : Layout). RecoverPromise K n s order′ (w′ .area) cells′ cells₁′ r′) p′)) in
-      (all .0, answer-same who _ _ _ _ _ _ (ap saying (all .1)))
+      (area-promise E′ L n s w′ b′ t′ inv′ (λ (K : Layout). RecoverPromise K n s order′ (w′ .area) cells′ cells₁′ r′) p′)) in
+      (stays b t inv (recovered-area w cells₁ r) (all .0), answer-same who _ _ _ _ _ _ (ap saying (all .1)))
 
   called-both :
       {w w′ x x′ : World} {c c′ : Call} {l l′ : Lengths} {a a′ : Answer} (b b′ : Book) (t t′ : ℕ) (who : Owner) → SameKind c c′ →
-      Moves n s w (called c l a) x → Moves n s w′ (called c′ l′ a′) x′ → Inv L n s w b t → Inv L n s w′ b′ t′ → Pair of L n s w w′ →
+      Moves n s w (called c l a) x → Moves n s w′ (called c′ l′ a′) x′ → Inv E L n s w b t → Inv E′ L n s w′ b′ t′ → Pair of L n s w w′ →
       SameCall who c c′ → l ≡ l′ → Covers of who (called c l a) → Both who x x′ (called c l a) (called c′ l′ a′)
   called-both b b′ t t′ who (both-start q q′ o o′ d e) m m′ inv inv′ pair same lent c = started b b′ t t′ who m m′ inv inv′ pair same d e lent c
   called-both b b′ t t′ who both-step m m′ inv inv′ pair same lent c = stepped-both b b′ t t′ who m m′ inv inv′ pair lent
+  called-both b b′ t t′ who both-switch m m′ inv inv′ pair same lent c = switched-both b b′ t t′ who m m′ inv inv′ pair
   called-both b b′ t t′ who (both-ask q q′ e) (ask p) (ask p′) inv inv′ pair same lent c =
-      (pair, asked-both b b′ t t′ who p p′ inv inv′ pair e lent c)
+      (stays b t inv refl pair, asked-both b b′ t t′ who p p′ inv inv′ pair e lent c)
   called-both b b′ t t′ who (both-ask q q′ e) (look p) (look p′) inv inv′ pair same lent c =
-      (pair, looked-both b b′ t t′ who p p′ inv inv′ pair e lent c)
+      (stays b t inv refl pair, looked-both b b′ t t′ who p p′ inv inv′ pair e lent c)
   called-both b b′ t t′ who (both-ask q q′ e) (ask p) (look p′) inv inv′ pair same lent c =
       absurd (clash (byScan q) (ap byScan e ∙ scanned-by p′) (asked-by p))
   called-both b b′ t t′ who (both-ask q q′ e) (look p) (ask p′) inv inv′ pair same lent c =
@@ -400,17 +438,18 @@ module _ (L : Layout) (roomy : Roomy L) (n s : ℕ) (of : ℕ → Bool) where
   called-both b b′ t t′ who (both-recover k k′ j j′ order order′ e) m m′ inv inv′ pair same lent c = recovered-both b b′ t t′ who m m′ inv inv′ pair e lent
 
   move-both :
-      {w w′ x x′ : World} (e e′ : Event) (b b′ : Book) (t t′ : ℕ) (who : Owner) → Moves n s w e x → Moves n s w′ e′ x′ → Inv L n s w b t →
-      Inv L n s w′ b′ t′ → Pair of L n s w w′ → SameInput who e e′ → Covers of who e → Both who x x′ e e′
+      {w w′ x x′ : World} (e e′ : Event) (b b′ : Book) (t t′ : ℕ) (who : Owner) → Moves n s w e x → Moves n s w′ e′ x′ → Inv E L n s w b t →
+      Inv E′ L n s w′ b′ t′ → Pair of L n s w w′ → SameInput who e e′ → Covers of who e → Both who x x′ e e′
   unfolding SameInput SameAnswer
   move-both (called c l a) (called c′ l′ a′) b b′ t t′ who m m′ inv inv′ pair same cov =
       called-both b b′ t t′ who (same-kind c c′ (blanked-same who c c′ (same .0))) m m′ inv inv′ pair (same .0) (same .1) cov
-  move-both cut cut b b′ t t′ who (cuts {w}) (cuts {w = w′}) inv inv′ pair same cov = (cut-both of L n s w w′ pair, tt)
+  move-both cut cut b b′ t t′ who (cuts {w}) (cuts {w = w′}) inv inv′ pair same cov = (stays b t inv refl (cut-both of L n s w w′ pair), tt)
   move-both (called c l a) cut b b′ t t′ who m m′ inv inv′ pair same cov = absurd same
   move-both cut (called c l a) b b′ t t′ who m m′ inv inv′ pair same cov = absurd same
 
-  -- ---- two lists of events
+-- ---- two lists of events
 
+module _ (n s : ℕ) (of : ℕ → Bool) where
   -- every range given in the list
   abbrev CoversAll : List Owner → List Event → Type 0
   CoversAll owners es = ((t : ℕ) → gives servo owners es t ≡ true → of t ≡ false) × ((t : ℕ) → gives media owners es t ≡ true → of t ≡ true)
@@ -424,23 +463,39 @@ module _ (L : Layout) (roomy : Roomy L) (n s : ℕ) (of : ℕ → Bool) where
   unfolding gives
   covers-rest who owners e es c = (λ t h. c .0 t (either-true-right _ _ h), λ t h. c .1 t (either-true-right _ _ h))
 
+  -- the heads of a pair of worlds are of one edition
+  one-edition :
+      {w w′ : World} (E E′ : Editions) (L K : Layout) (b b′ : Book) (t t′ : ℕ) → Inv E L n s w b t → Inv E′ K n s w′ b′ t′ → Pair of L n s w w′ → K ≡ L
+  one-edition {w} {w′} E E′ L K b b′ t t′ inv inv′ pair =
+      sym (recovered-image K n s (baseCells (w′ .cells)) (w′ .area) (recordFrom K n s (baseCells (w′ .cells)) (w′ .area)) (inv′ .base)) ∙
+      sym (layouts-same of L n s (w .area) (w′ .area) (pair .alike) (baseCells (w .cells)) rec (inv .base)) ∙
+      recovered-image L n s (baseCells (w .cells)) (w .area) rec (inv .base)
+    where
+      rec : Record
+      rec = recordFrom L n s (baseCells (w .cells)) (w .area)
+
   runs-both :
-      {w w′ x x′ : World} {es es′ : List Event} (owners : List Owner) (b b′ : Book) (t t′ : ℕ) → Run n s w es x → Run n s w′ es′ x′ →
-      Inv L n s w b t → Inv L n s w′ b′ t′ → Pair of L n s w w′ → SameInputs owners es es′ → CoversAll owners es → SameAnswers owners es es′
+      {w w′ x x′ : World} {es es′ : List Event} (owners : List Owner) (E E′ : Editions) (L : Layout) (b b′ : Book) (t t′ : ℕ) → Run n s w es x →
+      Run n s w′ es′ x′ → Inv E L n s w b t → Inv E′ L n s w′ b′ t′ → Pair of L n s w w′ → SameInputs owners es es′ → CoversAll owners es →
+      SameAnswers owners es es′
   unfolding SameInputs SameAnswers
-  runs-both [] b b′ t t′ stop stop inv inv′ pair same c = tt
-  runs-both (who ∷ owners) b b′ t t′ (go {e = e} {es = es} m r) (go {e = e′} {es = es′} m′ r′) inv inv′ pair same c =
-      let one = move-both e e′ b b′ t t′ who m m′ inv inv′ pair (same .0) (covers-first who owners e es c) in
-      let kept = move-keeps L laws n s b t m inv in
-      let kept′ = move-keeps L laws n s b′ t′ m′ inv′ in (
+  runs-both [] E E′ L b b′ t t′ stop stop inv inv′ pair same c = tt
+  runs-both (who ∷ owners) E E′ L b b′ t t′ (go {x} {e} {es} m r) (go {x = x′} {e = e′} {es = es′} m′ r′) inv inv′ pair same c =
+      let one = move-both E E′ L n s of e e′ b b′ t t′ who m m′ inv inv′ pair (same .0) (covers-first who owners e es c) in
+      let (K, kept, _) = move-keeps n s E L b t m inv in
+      let (K′, kept′, _) = move-keeps n s E′ L b′ t′ m′ inv′ in
+      let left = one .0 K (recovered-image K n s (baseCells (x .cells)) (x .area) (recordFrom K n s (baseCells (x .cells)) (x .area)) (kept .base)) in (
         one .1,
-        runs-both owners (feed b e) (feed b′ e′) (max t (versionTold e)) (max t′ (versionTold e′)) r r′ (kept .0) (kept′ .0) (one .0) (same .1)
-            (covers-rest who owners e es c),
+        runs-both owners (editionsAfter E e) (editionsAfter E′ e′) K (feed b e) (feed b′ e′) (max t (versionTold e)) (max t′ (versionTold e′)) r r′ kept
+            (subst (λ (M : Layout). Inv (editionsAfter E′ e′) M n s x′ (feed b′ e′) (max t′ (versionTold e′)))
+            (one-edition (editionsAfter E e) (editionsAfter E′ e′) K K′ (feed b e) (feed b′ e′) (max t (versionTold e)) (max t′ (versionTold e′)) kept kept′ left)
+            kept′)
+            left (same .1) (covers-rest who owners e es c),
       )
-  runs-both [] b b′ t t′ stop (go m′ r′) inv inv′ pair same c = absurd same
-  runs-both [] b b′ t t′ (go m r) r′ inv inv′ pair same c = absurd same
-  runs-both (who ∷ owners) b b′ t t′ stop r′ inv inv′ pair same c = absurd same
-  runs-both (who ∷ owners) b b′ t t′ (go m r) stop inv inv′ pair same c = absurd same
+  runs-both [] E E′ L b b′ t t′ stop (go m′ r′) inv inv′ pair same c = absurd same
+  runs-both [] E E′ L b b′ t t′ (go m r) r′ inv inv′ pair same c = absurd same
+  runs-both (who ∷ owners) E E′ L b b′ t t′ stop r′ inv inv′ pair same c = absurd same
+  runs-both (who ∷ owners) E E′ L b b′ t t′ (go m r) stop inv inv′ pair same c = absurd same
 
 -- a world is one of a pair with itself where nothing is held
 fresh-pair : (of : ℕ → Bool) (L : Layout) (n s : ℕ) (area : List ℕ) → Pair of L n s (freshWorld area) (freshWorld area)
@@ -448,17 +503,13 @@ unfolding HeldBoth
 fresh-pair of L n s area =
     record { alike = record { long = refl; views = record { digests = λ i l. refl; layouts = λ i l e. refl; scans = λ i l e. refl } }; held = tt }
 
--- Isolation for every layout of which each entry fits a fresh segment.
-pub isolation-for : (L : Layout) → Roomy L → IsolationFor L
-isolation-for L roomy n s area₀ area ab p owners es es′ w w′ run run′ same apart =
-    let start′ = fresh L (operation-laws L roomy) n s area₀ area ab p in
-    runs-both L roomy n s (gives media owners es) owners freshBook freshBook 0 0 run run′ start′ start′
+-- Isolation, for either edition.
+pub isolation : Isolation
+isolation L n s area₀ area ab p owners es es′ w w′ run run′ same apart =
+    let start′ = fresh n s L area₀ area ab p in
+    runs-both n s (gives media owners es) owners (formattedIn L) (formattedIn L) L freshBook freshBook 0 0 run run′ start′ start′
     (fresh-pair (gives media owners es) L n s area) same (λ t h. outside t h (gives media owners es t) refl, λ t h. h)
   where
     outside : (t : ℕ) → gives servo owners es t ≡ true → (u : Bool) → gives media owners es t ≡ u → u ≡ false
     outside t h true e = absurd (apart t h e)
     outside t h false e = refl
-
--- Isolation, for either edition.
-pub isolation : Isolation
-isolation L = isolation-for L (edition-roomy L)

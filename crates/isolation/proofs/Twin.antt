@@ -15,7 +15,8 @@ use Rattle.segment.specs.Digest.{layoutIn}
 use Rattle.segment.specs.declared.Version.{Version}
 use Rattle.slot_map.specs.Bit.{bit, named, within}
 use Rattle.slot_map.specs.NextLaws.{next-clear}
-use Rattle.record.specs.RangeLaws.{Lent, lent}
+use Rattle.record.specs.RangeLaws.{Lent, lent-switched}
+use Rattle.record.specs.Switch.{unswitched}
 use Rattle.record.specs.declared.Record.{Record}
 use Rattle.model.specs.Log.{View, Item, scanned, scan, itemsOf, segmentOf, viewsOf}
 use Rattle.model.specs.Recovery.{recovered}
@@ -35,17 +36,18 @@ use Rattle.isolation.proofs.Alike.{AlikeViews, Alike}
 abbrev pub Formed : Layout → List Entry → Type 0
 Formed L es = (x : Entry) → List·Memᴰ x es → WellFormed L x
 
--- The plans of an entry at the head's end, and those of a new head, from one record, with the map that they leave.
-pub data Twin (of : ℕ → Bool) (L : Layout) (r : Record) : List (ℕ × ℕ) → List (ℕ × ℕ) → ℕ → Type 0 where
+-- The plans of an entry at the head's end, which go by the head's layout L, and those of a new head, which go by the layout W of new
+-- heads, from one record, with the map that they leave.
+pub data Twin (of : ℕ → Bool) (L W : Layout) (r : Record) : List (ℕ × ℕ) → List (ℕ × ℕ) → ℕ → Type 0 where
   appends :
       (x x′ : Entry) → WellFormed L x → WellFormed L x′ → hidden of x ≡ hidden of x′ → r .end + sizeOf L x ≤ r .size →
-      Twin of L r (commit (r .size) (r .head) (r .end) (encoded L x)) (commit (r .size) (r .head) (r .end) (encoded L x′)) (r .map)
+      Twin of L W r (commit (r .size) (r .head) (r .end) (encoded L x)) (commit (r .size) (r .head) (r .end) (encoded L x′)) (r .map)
   heads :
       (victims : ℕ) (next : Version) (es es′ : List Entry) → within victims (r .map) ≡ true → r .digest .0 + 1 < 256 ^ 4 →
-      next .0 < 256 ^ table L .width → Formed L es → Formed L es′ → map (hidden of) es ≡ map (hidden of) es′ →
-      digestSize L + length (allEncoded L es) ≤ r .size →
-      Twin of L r (headPlan L (r .size) (newSlot r) (digestWith r victims next) es)
-      (headPlan L (r .size) (newSlot r) (digestWith r victims next) es′) (newDigest r victims .map)
+      next .0 < 256 ^ table W .width → Formed W es → Formed W es′ → map (hidden of) es ≡ map (hidden of) es′ →
+      digestSize W + length (allEncoded W es) ≤ r .size →
+      Twin of L W r (headPlan W (r .size) (newSlot r) (digestWith r victims next) es)
+      (headPlan W (r .size) (newSlot r) (digestWith r victims next) es′) (newDigest r victims .map)
 
 -- ---- one slot changes in both
 
@@ -122,27 +124,27 @@ module _ (of : ℕ → Bool) (L : Layout) where
 
 -- ---- after a prefix, and after all
 
-module _ (of : ℕ → Bool) (L : Layout) (r : Record) (area area′ : List ℕ)
-    (e : recovered L (r .slots) (r .size) (r .cells) area ≡ some r) (e′ : recovered L (r .slots) (r .size) (r .cells) area′ ≡ some r)
+module _ (of : ℕ → Bool) (L W : Layout) (r : Record) (area area′ : List ℕ)
+    (e : recovered L (r .slots) (r .size) (r .cells) area ≡ some (unswitched r)) (e′ : recovered L (r .slots) (r .size) (r .cells) area′ ≡ some (unswitched r))
     (a : Alike of (r .slots) (r .size) (r .map) area area′)
   where
     abbrev Left : ℕ → List (ℕ × ℕ) → List (ℕ × ℕ) → Type 0
     Left m plan plan′ = Alike of (r .slots) (r .size) m (stored area plan) (stored area′ plan′)
 
     facts : Lent L r (length area) (r .cells)
-    facts = recovered-holds L (r .slots) (r .size) (r .cells) area r e
+    facts = lent-switched r (recovered-holds L (r .slots) (r .size) (r .cells) area (unswitched r) e)
 
     facts′ : Lent L r (length area′) (r .cells)
-    facts′ = recovered-holds L (r .slots) (r .size) (r .cells) area′ r e′
+    facts′ = lent-switched r (recovered-holds L (r .slots) (r .size) (r .cells) area′ (unswitched r) e′)
 
     left-long : (plan plan′ : List (ℕ × ℕ)) → length (stored area plan) ≡ length (stored area′ plan′)
     left-long plan plan′ = length-stored area plan ∙ a .long ∙ sym (length-stored area′ plan′)
 
     own-edition : layoutIn (segmentOf area (r .size) (r .head)) ≡ L
-    own-edition = recovered-layout L (r .slots) (r .size) (r .cells) area r e
+    own-edition = recovered-layout L (r .slots) (r .size) (r .cells) area (unswitched r) e
 
     own-edition′ : layoutIn (segmentOf area′ (r .size) (r .head)) ≡ L
-    own-edition′ = recovered-layout L (r .slots) (r .size) (r .cells) area′ r e′
+    own-edition′ = recovered-layout L (r .slots) (r .size) (r .cells) area′ (unswitched r) e′
 
     abbrev items : List ℕ → List Item
     items l = itemsOf (viewsOf l (r .size) (r .head) .scan)
@@ -172,9 +174,9 @@ module _ (of : ℕ → Bool) (L : Layout) (r : Record) (area area′ : List ℕ)
                 none-changed of (viewsOf area (r .size)) (viewsOf area′ (r .size)) (viewsOf (stored area (take k (appending x))) (r .size))
                 (viewsOf (stored area′ (take k (appending x′))) (r .size)) (r .slots) (named (r .map)) (a .views)
                 (append-prefix L (r .slots) (r .size) (r .head) area (items area) (r .end) x (facts .area-own) (facts .head-below)
-                own-edition (recovered-scan L (r .slots) (r .size) (r .cells) area r e) f fits k h)
+                own-edition (recovered-scan L (r .slots) (r .size) (r .cells) area (unswitched r) e) f fits k h)
                 (append-prefix L (r .slots) (r .size) (r .head) area′ (items area′) (r .end) x′ (facts′ .area-own) (facts′ .head-below)
-                own-edition′ (recovered-scan L (r .slots) (r .size) (r .cells) area′ r e′) f′ fits′ k h′);
+                own-edition′ (recovered-scan L (r .slots) (r .size) (r .cells) area′ (unswitched r) e′) f′ fits′ k h′);
           }
 
       append-done : Left (r .map) (appending x) (appending x′)
@@ -201,20 +203,20 @@ module _ (of : ℕ → Bool) (L : Layout) (r : Record) (area area′ : List ℕ)
           }
         where
           own : scan L (segmentOf area (r .size) (r .head)) ≡ scanned (items area) (r .end)
-          own = recovered-scan L (r .slots) (r .size) (r .cells) area r e
+          own = recovered-scan L (r .slots) (r .size) (r .cells) area (unswitched r) e
 
           own′ : scan L (segmentOf area′ (r .size) (r .head)) ≡ scanned (items area′) (r .end)
-          own′ = recovered-scan L (r .slots) (r .size) (r .cells) area′ r e′
+          own′ = recovered-scan L (r .slots) (r .size) (r .cells) area′ (unswitched r) e′
 
     -- a new head
     module _ (victims : ℕ) (next : Version) (es es′ : List Entry) (sub : within victims (r .map) ≡ true) (same : map (hidden of) es ≡ map (hidden of) es′)
-        (fits : digestSize L + length (allEncoded L es) ≤ r .size)
+        (fits : digestSize W + length (allEncoded W es) ≤ r .size)
       where
         abbrev heading : List Entry → List (ℕ × ℕ)
-        heading l = headPlan L (r .size) (newSlot r) (digestWith r victims next) l
+        heading l = headPlan W (r .size) (newSlot r) (digestWith r victims next) l
 
-        fits-too : digestSize L + length (allEncoded L es′) ≤ r .size
-        fits-too = omega (arith, long-same of L es es′ same)
+        fits-too : digestSize W + length (allEncoded W es′) ≤ r .size
+        fits-too = omega (arith, long-same of W es es′ same)
 
         head-cut : (k : ℕ) → k < length (heading es) → k < length (heading es′) → Left (r .map) (take k (heading es)) (take k (heading es′))
         unfolding stored
@@ -226,28 +228,28 @@ module _ (of : ℕ → Bool) (L : Layout) (r : Record) (area area′ : List ℕ)
                   one-changed of (viewsOf area (r .size)) (viewsOf area′ (r .size))
                   (viewsOf (stored area (take (suc k) (heading es))) (r .size)) (viewsOf (stored area′ (take (suc k) (heading es′))) (r .size))
                   (r .slots) (newSlot r) (named (r .map)) (named (r .map)) (a .views)
-                  (new-head-other-prefix L (r .size) (newSlot r) area (digestWith r victims next) es fits (suc k))
-                  (new-head-other-prefix L (r .size) (newSlot r) area′ (digestWith r victims next) es′ fits-too (suc k))
-                  (new-head-prefix L (r .size) (newSlot r) area (digestWith r victims next) es fits (suc k) (omega arith) h ∙
-                  sym (new-head-prefix L (r .size) (newSlot r) area′ (digestWith r victims next) es′ fits-too (suc k) (omega arith) h′))
+                  (new-head-other-prefix W (r .size) (newSlot r) area (digestWith r victims next) es fits (suc k))
+                  (new-head-other-prefix W (r .size) (newSlot r) area′ (digestWith r victims next) es′ fits-too (suc k))
+                  (new-head-prefix W (r .size) (newSlot r) area (digestWith r victims next) es fits (suc k) (omega arith) h ∙
+                  sym (new-head-prefix W (r .size) (newSlot r) area′ (digestWith r victims next) es′ fits-too (suc k) (omega arith) h′))
                   (λ t. absurd (clash (named (r .map) (newSlot r)) t (new-free L area r e)))
                   (λ t. absurd (clash (named (r .map) (newSlot r)) t (new-free L area r e))) (λ i o t. t);
             }
 
         head-done :
-            Formed L es → Formed L es′ → r .digest .0 + 1 < 256 ^ 4 → next .0 < 256 ^ table L .width → Left (newDigest r victims .map) (heading es) (heading es′)
+            Formed W es → Formed W es′ → r .digest .0 + 1 < 256 ^ 4 → next .0 < 256 ^ table W .width → Left (newDigest r victims .map) (heading es) (heading es′)
         head-done f f′ number next-fits =
             record {
               long = left-long (heading es) (heading es′);
               views =
                   one-changed of (viewsOf area (r .size)) (viewsOf area′ (r .size)) (viewsOf (stored area (heading es)) (r .size))
                   (viewsOf (stored area′ (heading es′)) (r .size)) (r .slots) (newSlot r) (named (r .map)) (named (newDigest r victims .map)) (a .views)
-                  (new-head-other L (r .size) (newSlot r) area (digestWith r victims next) es fits)
-                  (new-head-other L (r .size) (newSlot r) area′ (digestWith r victims next) es′ fits-too)
+                  (new-head-other W (r .size) (newSlot r) area (digestWith r victims next) es fits)
+                  (new-head-other W (r .size) (newSlot r) area′ (digestWith r victims next) es′ fits-too)
                   (ap (λ (x : View). x .digest) view ∙ sym (ap (λ (x : View). x .digest) view′))
                   (λ t. ap (λ (x : View). x .layout) view ∙ sym (ap (λ (x : View). x .layout) view′))
                   (λ t.
-                  ap (λ (x : View). hiddenScan of (x .scan)) view ∙ headed-scan of L (digestSize L) es es′ same ∙
+                  ap (λ (x : View). hiddenScan of (x .scan)) view ∙ headed-scan of W (digestSize W) es es′ same ∙
                   sym (ap (λ (x : View). hiddenScan of (x .scan)) view′))
                   (λ i o t.
                   both-left (named (r .map) i) (not (named victims i)) (sym (new-others (r .map) victims (newSlot r) sub clear i o) ∙ t));
@@ -258,26 +260,26 @@ module _ (of : ℕ → Bool) (L : Layout) (r : Record) (area area′ : List ℕ)
 
             view :
                 viewsOf (stored area (heading es)) (r .size) (newSlot r) ≡
-                record { layout = L; digest = some (digestWith r victims next); scan = scanned (itemsFrom L (digestSize L) es) (digestSize L + length (allEncoded L es)) }
+                record { layout = W; digest = some (digestWith r victims next); scan = scanned (itemsFrom W (digestSize W) es) (digestSize W + length (allEncoded W es)) }
             view =
-                new-head-view L (digestWith r victims next) es number (new-map-fits L area r e victims sub) next-fits f (r .slots)
+                new-head-view W (digestWith r victims next) es number (new-map-fits L area r e victims sub) next-fits f (r .slots)
                 (r .size) (newSlot r) area (facts .area-own) (new-below L area r e) fits
 
             view′ :
                 viewsOf (stored area′ (heading es′)) (r .size) (newSlot r) ≡
-                record { layout = L; digest = some (digestWith r victims next); scan = scanned (itemsFrom L (digestSize L) es′) (digestSize L + length (allEncoded L es′)) }
+                record { layout = W; digest = some (digestWith r victims next); scan = scanned (itemsFrom W (digestSize W) es′) (digestSize W + length (allEncoded W es′)) }
             view′ =
-                new-head-view L (digestWith r victims next) es′ number (new-map-fits L area′ r e′ victims sub) next-fits f′ (r .slots)
+                new-head-view W (digestWith r victims next) es′ number (new-map-fits L area′ r e′ victims sub) next-fits f′ (r .slots)
                 (r .size) (newSlot r) area′ (facts′ .area-own) (new-below L area′ r e′) fits-too
 
     -- After a proper prefix of both plans the areas are alike under the old map,
     pub twin-cut :
-        {plan plan′ : List (ℕ × ℕ)} {m : ℕ} → Twin of L r plan plan′ m → (k : ℕ) → k < length plan → k < length plan′ →
+        {plan plan′ : List (ℕ × ℕ)} {m : ℕ} → Twin of L W r plan plan′ m → (k : ℕ) → k < length plan → k < length plan′ →
         Left (r .map) (take k plan) (take k plan′)
     twin-cut (appends x x′ f f′ same fits) k h h′ = append-cut x x′ f f′ same fits k h h′
     twin-cut (heads victims next es es′ sub number wide f f′ same fits) k h h′ = head-cut victims next es es′ sub same fits k h h′
 
     -- and after both whole plans under the map that they leave.
-    pub twin-done : {plan plan′ : List (ℕ × ℕ)} {m : ℕ} → Twin of L r plan plan′ m → Left m plan plan′
+    pub twin-done : {plan plan′ : List (ℕ × ℕ)} {m : ℕ} → Twin of L W r plan plan′ m → Left m plan plan′
     twin-done (appends x x′ f f′ same fits) = append-done x x′ f f′ same fits
     twin-done (heads victims next es es′ sub number wide f f′ same fits) = head-done victims next es es′ sub same fits f f′ number wide

@@ -11,7 +11,8 @@ use Rattle.isolation.specs.Owners.{Owner, SameInputs, SameAnswers, NoTab
 
 -- Take two runs on one formatted area in which everything that goes in is the same, call by call and cut by cut, but for the bytes of the
 -- values that media writes, and let no table be in the ranges of both owners. Then everything that comes out to servo is the same, and so
--- are all numbers that come out to media. Any area of bytes may have been formatted; the runs are those of demand 3.
+-- are all numbers that come out to media. Any area of bytes may have been formatted; the runs are those of demand 3, with
+-- switches to the second edition among the calls (R-13).
 abbrev pub IsolationFor : Layout → Type 0
 IsolationFor L =
     (n s : ℕ) (area₀ area : List ℕ) → Bytes area₀ → FormatPromise (numberOfLayout L) n s area₀ area FormatAnswer.Formatted →

@@ -11,9 +11,9 @@ use Rattle.record.specs.declared.Tables.{Tables}
 use Rattle.model.specs.Operations.{Operation, write, delete, clean}
 use Rattle.record.specs.Reach.{holdsTable}
 use Rattle.model.specs.Refused.{Terms}
-use Rattle.history.specs.Book.{reads, readsValue, tells, fewest, Call, starts, steps, asks, recovers, Answer, Event, called, cut, scans, scansValue, converts, joins}
+use Rattle.history.specs.Book.{reads, readsValue, tells, fewest, Call, starts, steps, switches, asks, recovers, Answer, Event, called, cut, scans, scansValue, converts, joins}
 
--- Who made a call. Steps, cleanings, recoveries and cuts are common; it does not matter whose they are said to be.
+-- Who made a call. Steps, cleanings, switches, recoveries and cuts are common; it does not matter whose they are said to be.
 pub data Owner : Type 0 where
   servo media : Owner
 
@@ -28,6 +28,7 @@ blankedOperation (clean victims) = clean victims
 unfoldable pub blanked : Call → Call
 blanked (starts q o) = starts q (blankedOperation o)
 blanked steps = steps
+blanked switches = switches
 blanked (asks q) = asks q
 blanked (recovers n s order) = recovers n s order
 
@@ -69,6 +70,7 @@ SameNumbers a a′ = numbersOf a ≡ numbersOf a′
 unfoldable pub SameToServo : Call → Answer → Answer → Type 0
 SameToServo (starts q o) a a′ = a ≡ a′
 SameToServo steps a a′ = a ≡ a′
+SameToServo switches a a′ = a ≡ a′
 SameToServo (asks (reads t k)) a a′ = a ≡ a′
 SameToServo (asks (readsValue t k)) a a′ = a ≡ a′
 SameToServo (asks tells) a a′ = SameNumbers a a′
@@ -112,6 +114,7 @@ startRange q (clean victims) = none
 unfoldable pub rangeOf : Event → Option Tables
 rangeOf (called (starts q o) lent a) = startRange q o
 rangeOf (called steps lent a) = none
+rangeOf (called switches lent a) = none
 rangeOf (called (asks (reads given k)) lent a) = some given
 rangeOf (called (asks (readsValue given k)) lent a) = some given
 rangeOf (called (asks tells) lent a) = none

@@ -3,7 +3,7 @@ use Prim.Native.Nat.{ℕ, _+_, _-_, _^_, _≤_, _<_}
 use native.Mathlib.Omega.{arith}
 use native.Mathlib.Decide.{ℕ-discrete}
 use native.Mathlib.Nat.{zero-add}
-use mathlib.Core.Path.{_≡_, refl, sym, ap, _∙_, subst}
+use mathlib.Core.Path.{_≡_, refl, sym, ap, _∙_}
 use mathlib.Core.Bool.{Bool, true, false, not}
 use mathlib.Core.List.{List, [], _∷_, List·Memᴰ·head, List·Memᴰ·tail}
 use mathlib.Core.Option.{Option, none, some}
@@ -12,7 +12,8 @@ use lib.ListN.{length}
 use lib.Pow.{pow-pos}
 use borrow.Author.Tests.{le-ltb, ne-eqb, eqb-false, not-false, not-true}
 use Rattle.segment.specs.Choice.{pick, both, both-false-left, both-false-right, either, either-false}
-use Rattle.segment.specs.Layout.{Layout, entrySize, digestSize, numberLimit}
+use Rattle.segment.specs.Layout.{Layout, edition2, entrySize, digestSize, versionLimit, numberLimit}
+use Rattle.segment.specs.LayoutLaws.{known-either}
 use Rattle.segment.specs.Entry.{Entry}
 use Rattle.segment.specs.declared.Key.{Key}
 use Rattle.slot_map.specs.Bit.{bit, named, within}
@@ -21,22 +22,24 @@ use Rattle.slot_map.specs.Count.{used, free}
 use Rattle.slot_map.specs.CountLaws.{used-add, used-of-zero, used-renewed, used-within}
 use Rattle.slot_map.specs.NextLaws.{next-below, next-clear}
 use Rattle.record.specs.Range.{fitsLent}
-use Rattle.record.specs.RangeLaws.{Lent, lent}
+use Rattle.record.specs.RangeLaws.{Lent, lent-switched}
 use Rattle.record.specs.Refusals.{numberOfRefusal}
+use Rattle.record.specs.Switch.{newLayout, unswitched}
 use Rattle.record.specs.declared.Expected.{Expected}
 use Rattle.record.specs.declared.Refusal.{Refusal}
 use Rattle.record.specs.declared.Record.{Record}
 use Rattle.model.specs.Log.{Placed, viewsOf, hasKey, keysOf, present, logOf}
 use Rattle.model.specs.Causes.{Cause, firstCause}
 use Rattle.model.specs.Recovery.{recovered}
-use Rattle.model.specs.Operations.{clean, logNow, newSlot, newDigest, digestWith, kept, placedFrom, stored, finishedRecord, cleanedRecord, laid, planOf}
+use Rattle.model.specs.Operations.{clean, logNow, newSlot, newDigest, digestWith, kept, placedFrom, laid, planOf, stored, finishedRecord}
 use Rattle.model.specs.Refused.{Lengths, Terms, KeyFacts, keyFacts, versionIn, outsideTables, isPending, valueBad, versionsSpent, expectsOther, keysFull, noRoom, noNumber, numbersSpent, victimsBad, writeCauses, recordBad, workShort}
 use Rattle.model.specs.Joining.{pairOf}
 use Rattle.laws.specs.CauseLaws.{NoCause, causes-none}
 use Rattle.laws.specs.Members.{In, Once, more, once-length, Within, clash}
 use Rattle.laws.specs.Keys.{KeysWithin, key-listed, listed-key, keys-once, keys-within}
 use Rattle.laws.specs.MapLaws.{valueAt, unplaced, Cleaned, clean-keys}
-use Rattle.laws.specs.Operated.{Accepted, OperationLaws, planAt, mapAfter}
+use Rattle.laws.specs.Operated.{Accepted, planAt, mapAfter}
+use Rattle.laws.specs.OperationsKept.{edition-laws}
 use Rattle.laws.specs.RecoverLaws.{recovered-case, recovered-holds}
 use Rattle.laws.specs.Cleanings.{Cleaning, clean-cleans}
 use Rattle.laws.specs.Cleaned.{cleaned-cleaned}
@@ -94,7 +97,7 @@ pub record Met12 (L : Layout) (r : Record) (l : Lengths) (t : Terms) (j : Key) (
   pub idle : isPending (r .pending) ≡ false
   pub value-known : valueBad L n ≡ false
   pub as-expected : expectsOther (t .expected) (k .version) ≡ false
-  pub versions-left : versionsSpent L r ≡ false
+  pub versions-left : versionsSpent r ≡ false
   pub key-fits : keysFull r k ≡ false
 
 pub met-12 : (L : Layout) (r : Record) (l : Lengths) (t : Terms) (j : Key) (k : KeyFacts) (n : ℕ) →
@@ -151,7 +154,13 @@ both-rest t h = h
 
 -- ---- after the cleaning
 
-module _ (L : Layout) (laws : OperationLaws L) (area : List ℕ) (r : Record) (i j : ℕ) (apart : i < j) (below : j < r .slots)
+-- a new head leaves the edition of new heads as it was
+pick-again : (t : Bool) (x y : Layout) → pick t x (pick t x y) ≡ pick t x y
+unfolding pick
+pick-again true x y = refl
+pick-again false x y = refl
+
+module _ (L : Layout) (area : List ℕ) (r : Record) (i j : ℕ) (apart : i < j) (below : j < r .slots)
     (acc : Accepted L area r (clean (pairOf i j)))
   where
     abbrev victims : ℕ
@@ -164,24 +173,34 @@ module _ (L : Layout) (laws : OperationLaws L) (area : List ℕ) (r : Record) (i
     done = finishedRecord L area r (clean victims)
 
     facts : Lent L r (length area) (r .cells)
-    facts = recovered-holds L (r .slots) (r .size) (r .cells) area r (acc .recovers)
+    facts = lent-switched r (recovered-holds L (r .slots) (r .size) (r .cells) area (unswitched r) (acc .recovers))
 
-    cleaning : Cleaning L area r victims (r .next) (logNow area r)
+    -- the new head is of the layout that the record has for new heads, in which what is kept is rewritten (02, R-13)
+    abbrev new : Layout
+    new = newLayout r
+
+    cleaning : Cleaning L new area r victims (r .next) (logNow area r)
     cleaning = clean-cleans L area r victims acc
 
-    recovers-done : recovered L (r .slots) (r .size) (r .cells) after ≡ some done
-    recovers-done = laws .finish-recovers area r (clean victims) acc
+    recovers-done : recovered (done .edition) (r .slots) (r .size) (r .cells) after ≡ some (unswitched done)
+    recovers-done = edition-laws L .finish-recovers area r (clean victims) acc
+
+    -- what is kept, in the new head
+    abbrev placed : List Placed
+    placed = placedFrom new (newSlot r) (digestSize new) (kept victims (logNow area r))
 
     -- the log that is left is the cleaned one
-    cleaned : Cleaned victims (logNow area r) (placedFrom L (newSlot r) (digestSize L) (kept victims (logNow area r))) (logNow after done)
+    cleaned : Cleaned victims (logNow area r) placed (logNow after done)
     unfolding laid planOf finishedRecord
     cleaned =
-        cleaned-cleaned L (r .slots) (r .size) (r .cells) area after r victims (r .next) (logNow area r) (acc .recovers) (cleaning .sub) (cleaning .stands)
+        cleaned-cleaned L new (cleaning .up) (r .slots) (r .size) (r .cells) area
+        (stored area (headPlan new (r .size) (newSlot r) (newDigest r victims) (kept victims (logNow area r)))) (unswitched r) victims (r .next) (logNow area r)
+        (acc .recovers) (cleaning .sub) (cleaning .stands)
         (record {
           others =
-              λ x l o. new-head-other L (r .size) (newSlot r) area (newDigest r victims) (kept victims (logNow area r)) (cleaning .room) x o;
+              λ x l o. new-head-other new (r .size) (newSlot r) area (newDigest r victims) (kept victims (logNow area r)) (cleaning .room) x o;
           own =
-              new-head-view L (newDigest r victims) (kept victims (logNow area r)) (cleaning .number-left)
+              new-head-view new (newDigest r victims) (kept victims (logNow area r)) (cleaning .number-left)
               (new-map-fits L area r (acc .recovers) victims (cleaning .sub)) (cleaning .next-fits) (cleaning .formed)
               (r .slots) (r .size) (newSlot r) area (facts .area-own) (new-below L area r (acc .recovers)) (cleaning .room);
         })
@@ -191,7 +210,7 @@ module _ (L : Layout) (laws : OperationLaws L) (area : List ℕ) (r : Record) (i
     unfolding mapAfter
     version-stays k =
         version-of (present (logNow after done) k) ∙
-        ap entryVersion (laws .finish-map area r (clean victims) acc k) ∙ sym (version-of (present (logNow area r) k))
+        ap entryVersion (edition-laws L .finish-map area r (clean victims) acc k) ∙ sym (version-of (present (logNow area r) k))
 
     -- 11: no more keys, and one less where the key is lost
     keys-fit : (k : Key) → keysFull r (keyFacts (logNow area r) k) ≡ false → keysFull done (keyFacts (logNow after done) k) ≡ false
@@ -199,13 +218,13 @@ module _ (L : Layout) (laws : OperationLaws L) (area : List ℕ) (r : Record) (i
     keys-fit k old = go (hasKey (logNow after done) k) refl (hasKey (logNow area r) k) refl
       where
         within-keys : KeysWithin (logNow after done) (logNow area r)
-        within-keys = clean-keys victims (logNow area r) (placedFrom L (newSlot r) (digestSize L) (kept victims (logNow area r))) (logNow after done) cleaned
+        within-keys = clean-keys victims (logNow area r) placed (logNow after done) cleaned
 
         counted : done .keys ≡ length (keysOf (logNow after done))
-        counted = keys-counted L (r .slots) (r .size) (r .cells) after done recovers-done
+        counted = keys-counted (done .edition) (r .slots) (r .size) (r .cells) after (unswitched done) recovers-done
 
         counted-old : r .keys ≡ length (keysOf (logNow area r))
-        counted-old = keys-counted L (r .slots) (r .size) (r .cells) area r (acc .recovers)
+        counted-old = keys-counted L (r .slots) (r .size) (r .cells) area (unswitched r) (acc .recovers)
 
         go : (t : Bool) → hasKey (logNow after done) k ≡ t → (u : Bool) → hasKey (logNow area r) k ≡ u →
             both (not (hasKey (logNow after done) k)) (eqb (done .keys) (r .cells - 1)) ≡ false
@@ -228,10 +247,15 @@ module _ (L : Layout) (laws : OperationLaws L) (area : List ℕ) (r : Record) (i
               eqb-false (r .keys) (r .cells - 1) (both-rest (eqb (r .keys) (r .cells - 1)) (sym (ap (λ (b : Bool). both (not b) (eqb (r .keys) (r .cells - 1))) q) ∙ old)),
             )))
 
-    -- 12: one slot more is free, and one was
-    room-left : (k : ℕ) → noRoom done k ≡ false
+    -- 9: the next version and its limit are the same
+    versions-stay : versionsSpent done ≡ versionsSpent r
     unfolding finishedRecord
-    room-left k =
+    versions-stay = ap (λ (W : Layout). eqb (r .next .0) (versionLimit W)) (pick-again (r .switched) edition2 (r .edition))
+
+    -- 12: one slot more is free, and one was
+    room-left : (K : Layout) (k : ℕ) → noRoom K done k ≡ false
+    unfolding finishedRecord
+    room-left K k =
         both-false-right _ _
         (le-ltb (free (r .slots) (newDigest r victims .map)) 2
         (omega (
@@ -244,14 +268,15 @@ module _ (L : Layout) (laws : OperationLaws L) (area : List ℕ) (r : Record) (i
           facts .some-free,
         )))
 
-    -- The write passes all its tests.
+    -- The write passes all its tests, which then go by the new head's layout.
     pub write-again : (l l′ : Lengths) (t : Terms) (k : Key) (n : ℕ) → (x : Refusal) → numberOfRefusal x ≡ 12 →
-        firstCause (writeCauses L r l t k (keyFacts (logNow area r) k) n) ≡ some x → r .digest .0 ≤ 4294967293 → fitsLent L done (l′ .area) (l′ .index) ≡ true → r .size ≤ l′ .work →
-        firstCause (writeCauses L done l′ t k (keyFacts (logNow after done) k) n) ≡ none
+        firstCause (writeCauses L r l t k (keyFacts (logNow area r) k) n) ≡ some x → r .digest .0 ≤ 4294967293 →
+        (K : Layout) → fitsLent K done (l′ .area) (l′ .index) ≡ true → r .size ≤ l′ .work →
+        firstCause (writeCauses K done l′ t k (keyFacts (logNow after done) k) n) ≡ none
     unfolding finishedRecord isPending
-    write-again l l′ t k n x twelve e few fits long =
+    write-again l l′ t k n x twelve e few K fits long =
         let p = met-12 L r l t k (keyFacts (logNow area r) k) n x twelve e in
-        causes-none (writeCauses L done l′ t k (keyFacts (logNow after done) k) n) (
+        causes-none (writeCauses K done l′ t k (keyFacts (logNow after done) k) n) (
           ap not fits,
           (
             p .in-reach,
@@ -260,17 +285,17 @@ module _ (L : Layout) (laws : OperationLaws L) (area : List ℕ) (r : Record) (i
               (
                 refl,
                 (
-                  p .value-known,
+                  known-either K L n ∙ p .value-known,
                   (
                     refl,
                     (
                       ap (expectsOther (t .expected)) (version-stays k) ∙ p .as-expected,
                       (
-                        p .versions-left,
+                        versions-stay ∙ p .versions-left,
                         (
                           keys-fit k (p .key-fits),
                           (
-                            room-left (entrySize L n),
+                            room-left K (entrySize K n),
                             (
                               both-false-right _ _ (ne-eqb (r .digest .0 + 1) numberLimit (λ z. omega (arith, z))),
                               tt,

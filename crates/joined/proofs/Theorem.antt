@@ -19,6 +19,7 @@ use Rattle.record.specs.Answers.{Said, refusal, startSaid, stepSaid, withPendin
 use Rattle.record.specs.Pairs.{PairSaid, noneSaid, joinSaid}
 use Rattle.record.specs.Range.{fitsLent}
 use Rattle.record.specs.Refusals.{numberOfRefusal}
+use Rattle.record.specs.Switch.{newLayout, unswitched}
 use Rattle.record.specs.declared.Joined.{Joined}
 use Rattle.record.specs.declared.JoinAnswer.{JoinAnswer}
 use Rattle.record.specs.declared.Pending.{Pending}
@@ -40,10 +41,12 @@ use Rattle.model.specs.Joining.{SlotPair, pairOf, joinFits, joinPair, joinCause
 use Rattle.laws.specs.CauseLaws.{causes-none, cause-skip, cause-first, cause-false, cause-rest, no-cause, refusal-number}
 use Rattle.laws.specs.Members.{clash}
 use Rattle.laws.specs.Passed.{step-passed}
-use Rattle.laws.specs.Operated.{Accepted, OperationLaws, planAt}
+use Rattle.laws.specs.Operated.{Accepted, planAt}
 use Rattle.laws.specs.OperationsKept.{edition-laws}
+use Rattle.laws.specs.RecoverLaws.{recovered-edition}
 use Rattle.joining.specs.PairLaws.{Joins, pair-given, pair-none}
 use Rattle.history.specs.Book.{joins, starts, steps, asks, Answer, saying, pairing, called, accepted, Book, freshBook, feed, bookOf, versionTold, highestTold}
+use Rattle.history.specs.Editions.{Editions, formattedIn, editionsAfter, editionsBehind}
 use Rattle.history.specs.Runs.{Held, World, heldAfter, Asked, join, Moves, start, step, ask}
 use Rattle.history.proofs.Invariant.{Inv, Holding, HeldGood, idle-same, held-promise}
 use Rattle.history.proofs.Tellings.{started-pending}
@@ -125,22 +128,22 @@ last true true false p q e = sym e
 last true false c p q e = absurd (clash false q refl)
 last false b c p q e = absurd (clash false p refl)
 
-module _ (L : Layout) (laws : OperationLaws L) (n s : ℕ) where
-  -- ---- the same by the edition of the format
+module _ (E : Editions) (L : Layout) (n s : ℕ) where
+  -- ---- the same by the edition of the head
 
   start-here : {area : List ℕ} {h : Held} {m : Option ℕ} {q : Terms} {o : Operation} {lent : Lengths} {x : Answer} {y : World} (b : Book) →
-      Holding L n s area m b h → Moves n s (at area h m) (called (starts q o) lent x) y → StartMade L area h m q o lent x y
+      Holding E L n s area m b h → Moves n s (at area h m) (called (starts q o) lent x) y → StartMade L area h m q o lent x y
   start-here {area = area} {h = h} {m = m} {q = q} {o = o} {lent = lent} {x = x} {y = y} b good move =
-      held-promise L n s area m b h good (λ (K : Layout). StartMade K area h m q o lent x y) (start-made move)
+      held-promise E L n s area m b h good (λ (K : Layout). StartMade K area h m q o lent x y) (start-made move)
 
   join-here : {area : List ℕ} {h : Held} {m : Option ℕ} {lent : Lengths} {x : Answer} {y : World} (b : Book) →
-      Holding L n s area m b h → Moves n s (at area h m) (called (asks joins) lent x) y → JoinMade L area h m x y
+      Holding E L n s area m b h → Moves n s (at area h m) (called (asks joins) lent x) y → JoinMade L area h m x y
   join-here {area = area} {h = h} {m = m} {x = x} {y = y} b good move =
-      held-promise L n s area m b h good (λ (K : Layout). JoinMade K area h m x y) (join-made move)
+      held-promise E L n s area m b h good (λ (K : Layout). JoinMade K area h m x y) (join-made move)
 
   -- ---- a store that holds a record
 
-  module _ (area : List ℕ) (h : Held) (m : Option ℕ) (b : Book) (told : ℕ) (inv : Inv L n s (at area h m) b told) (good : Holding L n s area m b h) where
+  module _ (area : List ℕ) (h : Held) (m : Option ℕ) (b : Book) (told : ℕ) (inv : Inv E L n s (at area h m) b told) (good : Holding E L n s area m b h) where
     abbrev r : Record
     r = h .rec
 
@@ -148,7 +151,7 @@ module _ (L : Layout) (laws : OperationLaws L) (n s : ℕ) where
     log = logNow area r
 
     fits : fitsLent L r (length area) (length (h .cells)) ≡ true
-    fits = held-fits L laws n s area m b h (inv .bytes) good
+    fits = held-fits E L (edition-laws L) n s area m b h (inv .bytes) good
 
     -- a refused start changes nothing
     refused-stays : (q : Terms) (o : Operation) (work work′ : List ℕ) (a : Start) → StartPromise L q o r area (h .cells) work work′ a → (c : Refusal) →
@@ -181,35 +184,35 @@ module _ (L : Layout) (laws : OperationLaws L) (n s : ℕ) where
 
     -- ---- the pair
 
-    -- the record is idle, and recovery of the area gives it
+    -- the record is idle, and recovery of the area gives it, its switch aside
     module _ (quiet : isPending (r .pending) ≡ false) where
-      recovers : recovered L (r .slots) (r .size) (r .cells) area ≡ some r
+      recovers : recovered L (r .slots) (r .size) (r .cells) area ≡ some (unswitched r)
       recovers = good .genuine .recovers ∙ ap some (idle-same r (not-pending (r .pending) quiet))
 
       -- what the causes of a join are, here
-      only-pair : firstCause (joinCauses L r (readLengths area (h .cells)) (joinPair L r log)) ≡ firstCause (when (isNone (joinPair L r log)) NoPair ∷ [])
+      only-pair : firstCause (joinCauses L r (readLengths area (h .cells)) (joinPair r log)) ≡ firstCause (when (isNone (joinPair r log)) NoPair ∷ [])
       only-pair =
           cause-skip (when (recordBad L r (readLengths area (h .cells))) BadRecord) _ (ap not fits) ∙
           cause-skip (when (isPending (r .pending)) Busy) _ quiet
 
       named-pair : (a : Joined) → JoinPromise L r area (h .cells) a → (i j : ℕ) → joinSaid (a .answer) ≡ record { refused = 0; first = i; second = j } →
-          Joins (joinFits L r log) (r .slots) i j
+          Joins (joinFits r log) (r .slots) i j
       named-pair a p i j e =
-          pair-given (joinFits L r log) (r .slots) (record { first = i; second = j })
-          (pair-told (firstCause (joinCauses L r (readLengths area (h .cells)) (joinPair L r log))) (joinPair L r log)
-          (λ none-of. cause-false (when (isNone (joinPair L r log)) NoPair) [] (sym only-pair ∙ none-of)) i j (sym (ap joinSaid (p .exact (good .genuine))) ∙ e))
+          pair-given (joinFits r log) (r .slots) (record { first = i; second = j })
+          (pair-told (firstCause (joinCauses L r (readLengths area (h .cells)) (joinPair r log))) (joinPair r log)
+          (λ none-of. cause-false (when (isNone (joinPair r log)) NoPair) [] (sym only-pair ∙ none-of)) i j (sym (ap joinSaid (p .exact (good .genuine))) ∙ e))
 
       -- a pair that fits can be cleaned
-      module _ (i j : ℕ) (w : Joins (joinFits L r log) (r .slots) i j) where
+      module _ (i j : ℕ) (w : Joins (joinFits r log) (r .slots) i j) where
         both-named : (named (r .map) i ≡ true) × (named (r .map) j ≡ true)
         unfolding joinFits
         both-named =
             let slots = both-left _ _ (w .fit) in
             (both-left (named (r .map) i) (named (r .map) j) slots, both-right (named (r .map) i) (named (r .map) j) slots)
 
-        short-enough : keptTooLong L r (keptLength L log (pairOf i j)) ≡ false
+        short-enough : keptTooLong r (keptLength (newLayout r) log (pairOf i j)) ≡ false
         unfolding joinFits
-        short-enough = not-inner (keptTooLong L r (keptLength L log (pairOf i j))) (both-right _ _ (w .fit))
+        short-enough = not-inner (keptTooLong r (keptLength (newLayout r) log (pairOf i j))) (both-right _ _ (w .fit))
           where
             not-inner : (t : Bool) → not t ≡ true → t ≡ false
             not-inner true e = sym e
@@ -219,7 +222,7 @@ module _ (L : Layout) (laws : OperationLaws L) (n s : ℕ) where
             firstCause (startCauses L r log (lentLengths area (h .cells) work) q (clean (pairOf i j))) ≡ none
         unfolding startCauses
         clean-passes few work long q =
-            causes-none (cleanCauses L r (lentLengths area (h .cells) work) (keptLength L log (pairOf i j)) (pairOf i j)) (
+            causes-none (cleanCauses L r (lentLengths area (h .cells) work) (keptLength (newLayout r) log (pairOf i j)) (pairOf i j)) (
               ap not fits,
               (
                 le-ltb (length work) (r .size) long,
@@ -249,8 +252,9 @@ module _ (L : Layout) (laws : OperationLaws L) (n s : ℕ) where
               no-cause = clean-passes few work long freely;
             }
 
-  -- ---- steps of a cleaning
+-- ---- steps of a cleaning
 
+module _ (L : Layout) (n s : ℕ) where
   -- A cleaning that was started on this area and record is at an area and a record held: some of its stores are done, or all.
   pub data During (area : List ℕ) (r : Record) (victims : ℕ) (area₁ : List ℕ) (h : Held) : Type 0 where
     going :
@@ -297,13 +301,14 @@ module _ (L : Layout) (laws : OperationLaws L) (n s : ℕ) where
         p q o
 
     step-during :
-        (area₁ area₂ cells₂ work : List ℕ) (h : Held) (a : Stepped) → (isPending (h .rec .pending) ≡ true → work ≡ h .work) →
-        StepPromise L (h .rec) area₁ area₂ (h .cells) cells₂ work a → Genuine L area₁ (h .rec) (h .cells) → During area r victims area₁ h →
+        (K : Layout) (area₁ area₂ cells₂ work : List ℕ) (h : Held) (a : Stepped) → h .rec .edition ≡ K →
+        (isPending (h .rec .pending) ≡ true → work ≡ h .work) → StepPromise K (h .rec) area₁ area₂ (h .cells) cells₂ work a →
+        Genuine K area₁ (h .rec) (h .cells) → During area r victims area₁ h →
         During area r victims area₂ (left-held h cells₂ a)
     unfolding finishedRecord isPending
-    step-during area₁ area₂ cells₂ work h a own p g d = go (firstCause (stepCauses L (h .rec) (lentLengths area₁ (h .cells) work))) refl d
+    step-during K area₁ area₂ cells₂ work h a its own p g d = go (firstCause (stepCauses K (h .rec) (lentLengths area₁ (h .cells) work))) refl d
       where
-        go : (c : Option Refusal) → firstCause (stepCauses L (h .rec) (lentLengths area₁ (h .cells) work)) ≡ c → During area r victims area₁ h →
+        go : (c : Option Refusal) → firstCause (stepCauses K (h .rec) (lentLengths area₁ (h .cells) work)) ≡ c → During area r victims area₁ h →
             During area r victims area₂ (left-held h cells₂ a)
         go (some c) e d =
             let x = p .refused c e in
@@ -313,47 +318,58 @@ module _ (L : Layout) (laws : OperationLaws L) (n s : ℕ) where
         go none e d = by-phase d
           where
             some-pending : isPending (h .rec .pending) ≡ true
-            some-pending = not-false (isPending (h .rec .pending)) (step-passed L (h .rec) (lentLengths area₁ (h .cells) work) e .some-pending)
+            some-pending = not-false (isPending (h .rec .pending)) (step-passed K (h .rec) (lentLengths area₁ (h .cells) work) e .some-pending)
 
             same-work : work ≡ h .work
             same-work = own some-pending
 
             by-phase : During area r victims area₁ h → During area r victims area₂ (left-held h cells₂ a)
             by-phase (going st b q o) =
+                -- until the last store the head is of the edition that it had
+                let here : K ≡ L =
+                sym its ∙ ap (λ (y : Record). y .edition) (st .record-now) ∙
+                recovered-edition L (st .idle .slots) (st .idle .size) (st .idle .cells) (st .before) (unswitched (st .idle)) (st .recovers) in
                 let x =
-                subst (λ (y : List ℕ). StepPromise L (h .rec) area₁ area₂ (h .cells) cells₂ y a) same-work p .exact
-                (subst (λ (y : List ℕ). firstCause (stepCauses L (h .rec) (lentLengths area₁ (h .cells) y)) ≡ none) same-work e) g st in
+                subst (λ (M : Layout). StepPromise M (h .rec) area₁ area₂ (h .cells) cells₂ (h .work) a) here
+                (subst (λ (y : List ℕ). StepPromise K (h .rec) area₁ area₂ (h .cells) cells₂ y a) same-work p) .exact
+                (subst (λ (M : Layout). firstCause (stepCauses M (h .rec) (lentLengths area₁ (h .cells) (h .work))) ≡ none) here
+                (subst (λ (y : List ℕ). firstCause (stepCauses K (h .rec) (lentLengths area₁ (h .cells) y)) ≡ none) same-work e))
+                (subst (λ (M : Layout). Genuine M area₁ (h .rec) (h .cells)) here g) st in
                 step-on area₁ area₂ cells₂ h a st (x .stores) (leftAfter L area₁ (h .rec) (h .work) st) refl (x .answers) b q o
             by-phase (over b q) =
                 let never : _≡_ {A = Bool} true false = sym some-pending ∙ ap (λ (y : Record). isPending (y .pending)) q in
                 let z : _≡_ {A = ℕ} 0 1 = cc in
                 absurd (omega arith)
 
-    -- where steps lead
+    -- where steps lead; the head may then be of another edition (02, R-13)
     pub record Led (y : World) : Type 0 where
+      pub editions : Editions
+      pub layout : Layout
       pub area₂ : List ℕ
       pub held₂ : Held
       pub cells₂ : Option ℕ
       pub book : Book
       pub told : ℕ
       pub is : y ≡ at area₂ held₂ cells₂
-      pub inv : Inv L n s (at area₂ held₂ cells₂) book told
+      pub inv : Inv editions layout n s (at area₂ held₂ cells₂) book told
       pub during : During area r victims area₂ held₂
 
-    leads : {y : World} (area₁ : List ℕ) (h : Held) (m : Option ℕ) (b : Book) (told : ℕ) → Inv L n s (at area₁ h m) b told → During area r victims area₁ h →
-        Stepping n s (at area₁ h m) y → Led y
+    leads : {y : World} (E : Editions) (K : Layout) (area₁ : List ℕ) (h : Held) (m : Option ℕ) (b : Book) (told : ℕ) → Inv E K n s (at area₁ h m) b told →
+        During area r victims area₁ h → Stepping n s (at area₁ h m) y → Led y
     unfolding HeldGood
-    leads area₁ h m b told inv d halt =
-        record { area₂ = area₁; held₂ = h; cells₂ = m; book = b; told = told; is = refl; inv = inv; during = d }
-    leads area₁ h m b told inv d (then (step {area′ = area₂} {cells′ = cells₂} {work = work} {a = a} own p) rest) =
+    leads E K area₁ h m b told inv d halt =
+        record { editions = E; layout = K; area₂ = area₁; held₂ = h; cells₂ = m; book = b; told = told; is = refl; inv = inv; during = d }
+    leads E K area₁ h m b told inv d (then (step {area′ = area₂} {cells′ = cells₂} {work = work} {a = a} own p) rest) =
         let made : Moves n s (at area₁ h m) (called steps (lentLengths area₁ (h .cells) work) (saying (stepSaid (a .answer)))) (at area₂ (left-held h cells₂ a) m) =
         step own p in
-        let kept = move-keeps L laws n s b told made inv in
-        let promise = held-promise L n s area₁ m b h (inv .held) (λ (K : Layout). StepPromise K (h .rec) area₁ area₂ (h .cells) cells₂ work a) p in
-        leads area₂ (left-held h cells₂ a) m _ _ (kept .0) (step-during area₁ area₂ cells₂ work h a own promise (inv .held .genuine) d) rest
+        let (M, kept, _) = move-keeps n s E K b told made inv in
+        let its : h .rec .edition ≡ K = held-promise E K n s area₁ m b h (inv .held) (λ (X : Layout). h .rec .edition ≡ X) refl in
+        let promise = held-promise E K n s area₁ m b h (inv .held) (λ (X : Layout). StepPromise X (h .rec) area₁ area₂ (h .cells) cells₂ work a) p in
+        leads _ M area₂ (left-held h cells₂ a) m _ _ kept (step-during K area₁ area₂ cells₂ work h a its own promise (inv .held .genuine) d) rest
 
-  -- ---- the write again
+-- ---- the write again
 
+module _ (E : Editions) (L : Layout) (n s : ℕ) where
   -- what a write and a join right behind it know of the pair
   pub record Known (area : List ℕ) (h : Held) (k : Key) (value : List ℕ) (t : Terms) (i j : ℕ) : Type 0 where
     pub lent : Lengths
@@ -361,7 +377,7 @@ module _ (L : Layout) (laws : OperationLaws L) (n s : ℕ) where
     pub twelve : numberOfRefusal cause ≡ 12
     pub refused : firstCause (startCauses L (h .rec) (logNow area (h .rec)) lent t (write k value)) ≡ some cause
     pub quiet : isPending (h .rec .pending) ≡ false
-    pub fit : Joins (joinFits L (h .rec) (logNow area (h .rec))) (h .rec .slots) i j
+    pub fit : Joins (joinFits (h .rec) (logNow area (h .rec))) (h .rec .slots) i j
     pub few : h .rec .digest .0 ≤ 4294967293
 
   abbrev CleansAt : World → ℕ → ℕ → Type 0
@@ -374,7 +390,7 @@ module _ (L : Layout) (laws : OperationLaws L) (n s : ℕ) where
       Stepping n s x y → NonePending y → (lent′ : Lengths) (a′ : Answer) (z : World) → s ≤ lent′ .work →
       Moves n s y (called (starts t (write k value)) lent′ a′) z → accepted a′ ≡ true
 
-  module _ (area : List ℕ) (h : Held) (m : Option ℕ) (b : Book) (told : ℕ) (inv : Inv L n s (at area h m) b told) (good : Holding L n s area m b h)
+  module _ (area : List ℕ) (h : Held) (m : Option ℕ) (b : Book) (told : ℕ) (inv : Inv E L n s (at area h m) b told) (good : Holding E L n s area m b h)
       (k : Key) (value : List ℕ) (t : Terms) (i j : ℕ) (know : Known area h k value t i j)
     where
       abbrev victims : ℕ
@@ -385,15 +401,15 @@ module _ (L : Layout) (laws : OperationLaws L) (n s : ℕ) where
 
       no-cause-of : (q : Terms) (work : List ℕ) → h .rec .size ≤ length work →
           firstCause (startCauses L (h .rec) (logNow area (h .rec)) (lentLengths area (h .cells) work) q (clean victims)) ≡ none
-      no-cause-of q work long = clean-passes area h m b told inv good (know .quiet) i j (know .fit) (know .few) work long q
+      no-cause-of q work long = clean-passes E L n s area h m b told inv good (know .quiet) i j (know .fit) (know .few) work long q
 
       cleans-here : CleansAt (at area h m) i j
       unfolding begun
       cleans-here q lent a x long move =
-          let c = start-here b good move in
+          let c = start-here E L n s b good move in
           ap accepted (c .says) ∙
           ap (λ (y : Said). eqb (y .refused) 0)
-          (start-says area h m b told inv good q (clean victims) (c .work) (c .work′) (c .start-answer) (c .promise) none
+          (start-says E L n s area h m b told inv good q (clean victims) (c .work) (c .work′) (c .start-answer) (c .promise) none
           (no-cause-of q (c .work) (long-work lent (c .work) (c .lent-is) long)))
 
       -- the record held once the cleaning is started
@@ -412,10 +428,10 @@ module _ (L : Layout) (laws : OperationLaws L) (n s : ℕ) where
           ap (λ (x : Begun). heldAfter h (x .work) (x .start))
           (p .exact (good .genuine) ∙ ap (begun L (h .rec) (logNow area (h .rec)) (clean victims) work) (no-cause-of q work long))
 
-      began : Typed (clean victims) → (work : List ℕ) → h .rec .size ≤ length work → During area (h .rec) victims area (begun-held work)
+      began : Typed (clean victims) → (work : List ℕ) → h .rec .size ≤ length work → During L n s area (h .rec) victims area (begun-held work)
       unfolding stored begun-held accepted-clean
       began ty work long =
-          let acc = accepted-clean area h m b told inv good (know .quiet) i j (know .fit) ty (know .few) work long in
+          let acc = accepted-clean E L n s area h m b told inv good (know .quiet) i j (know .fit) ty (know .few) work long in
           going
           (record {
             operation = clean victims;
@@ -427,53 +443,57 @@ module _ (L : Layout) (laws : OperationLaws L) (n s : ℕ) where
             area-bytes = inv .bytes;
             recovers = acc .recovers;
             accepted = acc .no-cause;
-            some-left = laws .some-stores area (h .rec) (clean victims) acc;
+            some-left = edition-laws L .some-stores area (h .rec) (clean victims) acc;
             record-now = rw sub-zero refl;
             area-now = refl;
             work-now =
                 taken-sets work 0 (laid L (h .rec) (logNow area (h .rec)) (clean victims) .bytes)
                 (length (laid L (h .rec) (logNow area (h .rec)) (clean victims) .bytes)) refl
-                (omega (arith, long, laws .bytes-fit area (h .rec) (clean victims) acc));
+                (omega (arith, long, edition-laws L .bytes-fit area (h .rec) (clean victims) acc));
           })
           refl refl refl
 
       -- at the end of the steps the write is accepted
-      written : Accepted L area (h .rec) (clean victims) → (area₂ : List ℕ) (h₂ : Held) (m₂ : Option ℕ) (b₂ : Book) (told₂ : ℕ) →
-          Inv L n s (at area₂ h₂ m₂) b₂ told₂ → Holding L n s area₂ m₂ b₂ h₂ → During area (h .rec) victims area₂ h₂ → h₂ .rec .pending ≡ Idle →
+      written : Accepted L area (h .rec) (clean victims) → (E₂ : Editions) (K : Layout) (area₂ : List ℕ) (h₂ : Held) (m₂ : Option ℕ) (b₂ : Book) (told₂ : ℕ) →
+          Inv E₂ K n s (at area₂ h₂ m₂) b₂ told₂ → Holding E₂ K n s area₂ m₂ b₂ h₂ → During L n s area (h .rec) victims area₂ h₂ → h₂ .rec .pending ≡ Idle →
           (lent : Lengths) (a : Answer) (z : World) → s ≤ lent .work → Moves n s (at area₂ h₂ m₂) (called (starts t (write k value)) lent a) z → accepted a ≡ true
       unfolding isPending begun startCauses
-      written acc area₂ h₂ m₂ b₂ told₂ inv₂ good₂ (going st _ _ _) quiet lent a z long move =
+      written acc E₂ K area₂ h₂ m₂ b₂ told₂ inv₂ good₂ (going st _ _ _) quiet lent a z long move =
           let never : _≡_ {A = Bool} true false = sym (started-pending L area₂ (h₂ .rec) (h₂ .work) st) ∙ ap isPending quiet in
           let w : _≡_ {A = ℕ} 0 1 = cc in
           absurd (omega arith)
-      written acc area₂ h₂ m₂ b₂ told₂ inv₂ good₂ (over here is) quiet lent a z long move =
-          let c = start-here b₂ good₂ move in
+      written acc E₂ K area₂ h₂ m₂ b₂ told₂ inv₂ good₂ (over here is) quiet lent a z long move =
+          let c = start-here E₂ K n s b₂ good₂ move in
           ap accepted (c .says) ∙
           ap (λ (y : Said). eqb (y .refused) 0)
-          (start-says area₂ h₂ m₂ b₂ told₂ inv₂ good₂ t (write k value) (c .work) (c .work′) (c .start-answer) (c .promise) none (passes (c .work) (c .lent-is)))
+          (start-says E₂ K n s area₂ h₂ m₂ b₂ told₂ inv₂ good₂ t (write k value) (c .work) (c .work′) (c .start-answer) (c .promise) none (passes (c .work) (c .lent-is)))
         where
           passes : (work : List ℕ) → lent ≡ lentLengths area₂ (h₂ .cells) work →
-              firstCause (startCauses L (h₂ .rec) (logNow area₂ (h₂ .rec)) (lentLengths area₂ (h₂ .cells) work) t (write k value)) ≡ none
+              firstCause (startCauses K (h₂ .rec) (logNow area₂ (h₂ .rec)) (lentLengths area₂ (h₂ .cells) work) t (write k value)) ≡ none
           passes work lent-is =
-              (λ τ. firstCause (writeCauses L (is τ) (lentLengths area₂ (h₂ .cells) work) t k (keyFacts (logNow (here τ) (is τ)) k) (length value))) ∙
-              write-again L laws area (h .rec) i j (know .fit .apart) (know .fit .below) acc (know .lent) (lentLengths area₂ (h₂ .cells) work) t k (length value)
-              (know .cause) (know .twelve) (know .refused) (know .few)
-              (subst (λ (x : Record). fitsLent L x (length area₂) (length (h₂ .cells)) ≡ true) is (held-fits L laws n s area₂ m₂ b₂ h₂ (inv₂ .bytes) good₂))
+              (λ τ. firstCause (writeCauses K (is τ) (lentLengths area₂ (h₂ .cells) work) t k (keyFacts (logNow (here τ) (is τ)) k) (length value))) ∙
+              write-again L area (h .rec) i j (know .fit .apart) (know .fit .below) acc (know .lent) (lentLengths area₂ (h₂ .cells) work) t k (length value)
+              (know .cause) (know .twelve) (know .refused) (know .few) K
+              (subst (λ (x : Record). fitsLent K x (length area₂) (length (h₂ .cells)) ≡ true) is (held-fits E₂ K (edition-laws K) n s area₂ m₂ b₂ h₂ (inv₂ .bytes) good₂))
               (omega (arith, long, good .size-same, ap (λ (l : Lengths). l .work) lent-is))
 
       writes-here : WritesAt (at area h m) k value t i j
       unfolding HeldGood
       writes-here q lent a x long move y run quiet lent′ a′ z long′ move′ =
-          let c = start-here b good move in
+          let c = start-here E L n s b good move in
           let enough = long-work lent (c .work) (c .lent-is) long in
           let there : x ≡ at area (begun-held (c .work)) m =
           c .leads ∙ ap (λ (g : Held). at area g m) (begun-here q (c .work) (c .work′) (c .start-answer) (c .promise) enough) in
-          let kept = move-keeps L laws n s b told move inv in
+          let (M, kept, _) = move-keeps n s E L b told move inv in
           let led =
-          leads area (h .rec) victims area (begun-held (c .work)) m _ _
-          (subst (λ (w : World). Inv L n s w (feed b (called (starts q (clean victims)) lent a)) (max told (versionTold (called (starts q (clean victims)) lent a)))) there (kept .0))
+          leads L n s area (h .rec) victims _ M area (begun-held (c .work)) m _ _
+          (subst
+          (λ (w : World).
+          Inv (editionsAfter E (called (starts q (clean victims)) lent a)) M n s w (feed b (called (starts q (clean victims)) lent a))
+          (max told (versionTold (called (starts q (clean victims)) lent a))))
+          there kept)
           (began (c .typed) (c .work) enough) (subst (λ (w : World). Stepping n s w y) there run) in
-          written (accepted-clean area h m b told inv good (know .quiet) i j (know .fit) (c .typed) (know .few) (c .work) enough) (led .area₂) (led .held₂) (led .cells₂)
+          written (accepted-clean E L n s area h m b told inv good (know .quiet) i j (know .fit) (c .typed) (know .few) (c .work) enough) (led .editions) (led .layout) (led .area₂) (led .held₂) (led .cells₂)
           (led .book) (led .told) (led .inv) (led .inv .held) (led .during) (quiet (led .held₂) (ap (λ (w : World). w .held) (led .is))) lent′ a′ z long′
           (subst (λ (w : World). Moves n s w (called (starts t (write k value)) lent′ a′) z) (led .is) move′)
 
@@ -490,7 +510,7 @@ module _ (L : Layout) (laws : OperationLaws L) (n s : ℕ) where
       }
 
   joins-helps :
-      {w x₁ x₂ : World} {t : Terms} {k : Key} {value : List ℕ} {lent₁ lent₂ : Lengths} {a₁ a₂ : Answer} (b : Book) (told : ℕ) → Inv L n s w b told →
+      {w x₁ x₂ : World} {t : Terms} {k : Key} {value : List ℕ} {lent₁ lent₂ : Lengths} {a₁ a₂ : Answer} (b : Book) (told : ℕ) → Inv E L n s w b told →
       Moves n s w (called (starts t (write k value)) lent₁ a₁) x₁ → a₁ .said .refused ≡ 12 → Moves n s x₁ (called (asks joins) lent₂ a₂) x₂ → (i j : ℕ) →
       a₂ ≡ pairing (record { refused = 0; first = i; second = j }) → NumbersLeft w → CleansAt x₂ i j × WritesAt x₂ k value t i j
   unfolding HeldGood startCauses
@@ -499,16 +519,16 @@ module _ (L : Layout) (laws : OperationLaws L) (n s : ℕ) where
       (cleans-here area h m b told inv (inv .held) k value t i j known, writes-here area h m b told inv (inv .held) k value t i j known)
     where
       promise : StartPromise L t (write k value) (h .rec) area (h .cells) work work′ a
-      promise = held-promise L n s area m b h (inv .held) (λ (K : Layout). StartPromise K t (write k value) (h .rec) area (h .cells) work work′ a) p
+      promise = held-promise E L n s area m b h (inv .held) (λ (K : Layout). StartPromise K t (write k value) (h .rec) area (h .cells) work work′ a) p
 
-      met : Cause12 area h m b told inv (inv .held) t (write k value) work
-      met = was-12 area h m b told inv (inv .held) t (write k value) work work′ a promise twelve
+      met : Cause12 E L n s area h m b told inv (inv .held) t (write k value) work
+      met = was-12 E L n s area h m b told inv (inv .held) t (write k value) work work′ a promise twelve
 
       made : JoinMade L area h m a₂ x₂
       made =
-          join-here b (inv .held)
+          join-here E L n s b (inv .held)
           (subst (λ (g : Held). Moves n s (at area g m) (called (asks joins) lent₂ a₂) x₂)
-          (refused-stays area h m b told inv (inv .held) t (write k value) work work′ a promise (met .cause) (met .is-first)) ask₂)
+          (refused-stays E L n s area h m b told inv (inv .held) t (write k value) work work′ a promise (met .cause) (met .is-first)) ask₂)
 
       quiet : isPending (h .rec .pending) ≡ false
       quiet =
@@ -523,14 +543,14 @@ module _ (L : Layout) (laws : OperationLaws L) (n s : ℕ) where
             twelve = met .twelve;
             refused = met .is-first;
             quiet = quiet;
-            fit = named-pair area h m b told inv (inv .held) quiet (made .joined) (made .promise) i j (pairing-says _ _ (sym (made .says) ∙ names));
+            fit = named-pair E L n s area h m b told inv (inv .held) quiet (made .joined) (made .promise) i j (pairing-says _ _ (sym (made .says) ∙ names));
             few = few h refl;
           }
 
   -- 23 means that there is no pair
-  module _ (area : List ℕ) (h : Held) (m : Option ℕ) (b : Book) (told : ℕ) (inv : Inv L n s (at area h m) b told) (good : Holding L n s area m b h) where
+  module _ (area : List ℕ) (h : Held) (m : Option ℕ) (b : Book) (told : ℕ) (inv : Inv E L n s (at area h m) b told) (good : Holding E L n s area m b h) where
     abbrev its-pair : Option SlotPair
-    its-pair = joinPair L (h .rec) (logNow area (h .rec))
+    its-pair = joinPair (h .rec) (logNow area (h .rec))
 
     told-23 : (c : Option Refusal) → joinSaid (joinAnswer c its-pair) ≡ noneSaid 23 →
         firstCause (joinCauses L (h .rec) (readLengths area (h .cells)) its-pair) ≡ c → (isPending (h .rec .pending) ≡ false) × (its-pair ≡ none)
@@ -558,55 +578,49 @@ module _ (L : Layout) (laws : OperationLaws L) (n s : ℕ) where
         StartPromise L q (clean (pairOf i j)) (h .rec) area (h .cells) work work′ c → startSaid (c .answer) ≡ refusal 14
     unfolding begun startCauses joinFits
     no-join-here a p says i j l below slots q work work′ c long start₂ =
-        start-says area h m b told inv good q (clean (pairOf i j)) work work′ c start₂ (some KeptTooLong)
-        (cause-skip (when (recordBad L (h .rec) (lentLengths area (h .cells) work)) BadRecord) _ (ap not (held-fits L laws n s area m b h (inv .bytes) good)) ∙
+        start-says E L n s area h m b told inv good q (clean (pairOf i j)) work work′ c start₂ (some KeptTooLong)
+        (cause-skip (when (recordBad L (h .rec) (lentLengths area (h .cells) work)) BadRecord) _ (ap not (held-fits E L (edition-laws L) n s area m b h (inv .bytes) good)) ∙
         cause-skip (when (workShort (h .rec) (lentLengths area (h .cells) work)) WorkShort) _ (le-ltb (length work) (h .rec .size) (omega (arith, good .size-same, long))) ∙
         cause-skip (when (isPending (h .rec .pending)) Busy) _ (facts .0) ∙
         cause-skip (when (victimsBad (h .rec) (pairOf i j)) BadVictims) _ (pair-good i j (λ e. omega arith) (h .rec) (slots .0) (slots .1)) ∙
-        cause-first (when (keptTooLong L (h .rec) (keptLength L (logNow area (h .rec)) (pairOf i j))) KeptTooLong) _ long-kept)
+        cause-first (when (keptTooLong (h .rec) (keptLength (newLayout (h .rec)) (logNow area (h .rec)) (pairOf i j))) KeptTooLong) _ long-kept)
       where
         facts : (isPending (h .rec .pending) ≡ false) × (its-pair ≡ none)
         facts =
             told-23 (firstCause (joinCauses L (h .rec) (readLengths area (h .cells)) its-pair)) (sym (ap joinSaid (p .exact (good .genuine))) ∙ says) refl
 
-        unfit : joinFits L (h .rec) (logNow area (h .rec)) i j ≡ false
-        unfit = pair-none (joinFits L (h .rec) (logNow area (h .rec))) (h .rec .slots) (facts .1) i j l (omega (arith, good .slots-same, below))
+        unfit : joinFits (h .rec) (logNow area (h .rec)) i j ≡ false
+        unfit = pair-none (joinFits (h .rec) (logNow area (h .rec))) (h .rec .slots) (facts .1) i j l (omega (arith, good .slots-same, below))
 
-        long-kept : keptTooLong L (h .rec) (keptLength L (logNow area (h .rec)) (pairOf i j)) ≡ true
+        long-kept : keptTooLong (h .rec) (keptLength (newLayout (h .rec)) (logNow area (h .rec)) (pairOf i j)) ≡ true
         long-kept =
-            last (named (h .rec .map) i) (named (h .rec .map) j) (keptTooLong L (h .rec) (keptLength L (logNow area (h .rec)) (pairOf i j))) (slots .0) (slots .1)
+            last (named (h .rec .map) i) (named (h .rec .map) j) (keptTooLong (h .rec) (keptLength (newLayout (h .rec)) (logNow area (h .rec)) (pairOf i j))) (slots .0) (slots .1)
             unfit
 
   no-joins :
-      {w x y : World} {lent lent′ : Lengths} {a a′ : Answer} {q : Terms} (b : Book) (told : ℕ) → Inv L n s w b told →
+      {w x y : World} {lent lent′ : Lengths} {a a′ : Answer} {q : Terms} (b : Book) (told : ℕ) → Inv E L n s w b told →
       Moves n s w (called (asks joins) lent a) x → a ≡ pairing (noneSaid 23) → (i j : ℕ) → i < j → j < n → LogSlots w i j → s ≤ lent′ .work →
       Moves n s x (called (starts q (clean (pairOf i j))) lent′ a′) y → a′ ≡ saying (refusal 14)
   unfolding HeldGood
   no-joins {q = q} b told inv (ask (join {area = area} {h = h} {m = m} {a = a} p)) says i j l below slots long move =
-      let c = start-here b (inv .held) move in
-      let promise = held-promise L n s area m b h (inv .held) (λ (K : Layout). JoinPromise K (h .rec) area (h .cells) a) p in
+      let c = start-here E L n s b (inv .held) move in
+      let promise = held-promise E L n s area m b h (inv .held) (λ (K : Layout). JoinPromise K (h .rec) area (h .cells) a) p in
       c .says ∙
       ap saying
       (no-join-here area h m b told inv (inv .held) a promise (pairing-says _ _ says) i j l below (slots h refl) q (c .work) (c .work′) (c .start-answer)
       (omega (arith, long, ap (λ (x : Lengths). x .work) (c .lent-is))) (c .promise))
 
--- 02, R-7: after cleaning the pair the same write is accepted.
-pub join-helps-for : (L : Layout) → OperationLaws L → JoinHelps L
-join-helps-for L laws n s area₀ area bytes p es w r t k value d few =
-    let kept = run-keeps L laws n s freshBook 0 r (fresh L laws n s area₀ area bytes p) in
-    let both-ways = joins-helps L laws n s (bookOf es) (max 0 (highestTold es)) (kept .0) (d .wrote) (d .met-12) (d .asked) (d .first) (d .second) (d .names) few in
+-- 02, R-7: after cleaning the pair the same write is accepted. For a store that was formatted in either edition (R-11), switched or not (R-13).
+pub join-helps : (L : Layout) → JoinHelps L
+join-helps L n s area₀ area bytes p es w r t k value d few =
+    let (K, kept, _) = run-keeps n s (formattedIn L) L freshBook 0 r (fresh n s L area₀ area bytes p) in
+    let both-ways =
+    joins-helps (editionsBehind (formattedIn L) es) K n s (bookOf es) (max 0 (highestTold es)) kept (d .wrote) (d .met-12) (d .asked) (d .first) (d .second)
+    (d .names) few in
     record { cleans = both-ways .0; writes = both-ways .1 }
 
--- For a store of either edition (02, R-11).
-pub join-helps : (L : Layout) → JoinHelps L
-join-helps L = join-helps-for L (edition-laws L)
-
 -- 02, R-7: 23 means that no two log slots can be cleaned into one head.
-pub no-join-for : (L : Layout) → OperationLaws L → NoJoin L
-no-join-for L laws n s area₀ area bytes p es w r lent a x asked says i j l below slots q lent′ a′ y long move =
-    let kept = run-keeps L laws n s freshBook 0 r (fresh L laws n s area₀ area bytes p) in
-    no-joins L laws n s (bookOf es) (max 0 (highestTold es)) (kept .0) asked says i j l below slots long move
-
--- For a store of either edition.
 pub no-join : (L : Layout) → NoJoin L
-no-join L = no-join-for L (edition-laws L)
+no-join L n s area₀ area bytes p es w r lent a x asked says i j l below slots q lent′ a′ y long move =
+    let (K, kept, _) = run-keeps n s (formattedIn L) L freshBook 0 r (fresh n s L area₀ area bytes p) in
+    no-joins (editionsBehind (formattedIn L) es) K n s (bookOf es) (max 0 (highestTold es)) kept asked says i j l below slots long move

@@ -1,5 +1,6 @@
--- 02, R-7, over runs with demand 3's premises: where a write was refused with 12 and two slots are named to be joined, their cleaning is
--- accepted, and after its last step so is the same write. And where none are named, no two log slots can be cleaned into one head.
+-- 02, R-7, over runs with demand 3's premises, so in stores that are switched or not, with logs of one edition or both (R-13): where a
+-- write was refused with 12 and two slots are named to be joined, their cleaning is accepted, and after its last step so is the same write.
+-- And where none are named, no two log slots can be cleaned into one head.
 use Prim.Native.Nat.{ℕ, _≤_, _<_}
 use mathlib.Core.Path.{_≡_}
 use mathlib.Core.Bool.{true}

@@ -14,6 +14,7 @@ use Rattle.segment.specs.Choice.{isNone}
 use Rattle.segment.specs.Layout.{Layout, digestSize}
 use Rattle.record.specs.Range.{fitsLent}
 use Rattle.record.specs.RangeLaws.{Lent, lent}
+use Rattle.record.specs.Switch.{newLayout}
 use Rattle.record.specs.Pairs.{joinSaid}
 use Rattle.record.specs.declared.Joined.{Joined}
 use Rattle.record.specs.declared.JoinAnswer.{JoinAnswer}
@@ -99,7 +100,7 @@ module _ (L : Layout) (area cells : List ℕ) (r : Record) where
 
   -- the pair by the code's weights
   abbrev pub codePair : Option SlotPair
-  codePair = lowestPair (weightsFit L area cells (noteAll area cells (logSplit r) (replicate 5958 0)) (logSplit r)) (r .slots)
+  codePair = lowestPair (weightsFit (newLayout r) area cells (noteAll area cells (logSplit r) (replicate 5958 0)) (logSplit r)) (r .slots)
 
   early-first : (p : Option SlotPair) (c : Refusal) → firstCause (joinEarly L r l) ≡ some c → firstCause (joinCauses L r l p) ≡ some c
   early-first p c e = first-some (joinEarly L r l) (when (isNone p) NoPair ∷ []) c e
@@ -132,7 +133,7 @@ module _ (L : Layout) (area cells : List ℕ) (r : Record) where
       early c q = e ∙ ap (λ (o : Option Refusal). joinAnswer o codePair) (early-first codePair c q)
 
       model : Option SlotPair
-      model = joinPair L r (logNow area r)
+      model = joinPair r (logNow area r)
 
       exact : Genuine L area r cells → a .answer ≡ joinAnswer (firstCause (joinCauses L r l model)) model
       exact g = e ∙ go (firstCause (joinEarly L r l)) refl
@@ -146,7 +147,7 @@ module _ (L : Layout) (area cells : List ℕ) (r : Record) where
               let f = in-range q in
               ap (λ (p : Option SlotPair). joinAnswer (firstCause (joinCauses L r l p)) p)
               (pair-model area cells (omega (arith, f .area-own, mul-le-mul (f .slots-high) (f .size-high))) r (genuine-indexed L area cells r g)
-              (omega (arith, f .cells-high, f .index-own)) L (f .slots-high))
+              (omega (arith, f .cells-high, f .index-own)) (f .slots-high))
 
       says : Settled L area r cells (joinEarly L r l) → joinSaid (a .answer) ≡ pairSaidBy (firstCause (joinCauses L r l model)) model
       says (inl (c, q)) = ap joinSaid (early c q) ∙ sym (ap (λ (d : Option Refusal). pairSaidBy d model) (early-first model c q))
@@ -158,10 +159,15 @@ module _ (L : Layout) (area cells : List ℕ) (r : Record) where
       promise (record { answer = JoinAnswer.Refused c; rec = r }) refl
       (sym (ap (λ (d : Option Refusal). joinAnswer d codePair) (early-first codePair c (checked-some _ c e))))
 
-  module _ (e : Check.Passed ≡ checked (firstCause (joinEarly L r l))) (split : Split) (is : split ≡ logSplit r) (chosen : Chosen)
-      (its : chosen ≡ chosenIs (lowestPair (weightsFit L area cells (noteAll area cells split (replicate 5958 0)) split) (split .slots))) where
+  -- W is the edition that the code takes for the new head
+  module _ (e : Check.Passed ≡ checked (firstCause (joinEarly L r l))) (W : Layout) (new : W ≡ newLayout r) (split : Split)
+      (is : split ≡ logSplit r) (chosen : Chosen)
+      (its : chosen ≡ chosenIs (lowestPair (weightsFit W area cells (noteAll area cells split (replicate 5958 0)) split) (split .slots))) where
     code : chosen ≡ chosenIs codePair
-    code = its ∙ ap (λ (s : Split). chosenIs (lowestPair (weightsFit L area cells (noteAll area cells s (replicate 5958 0)) s) (s .slots))) is
+    code =
+        its
+        ∙ ap (λ (K : Layout). chosenIs (lowestPair (weightsFit K area cells (noteAll area cells split (replicate 5958 0)) split) (split .slots))) new
+        ∙ ap (λ (s : Split). chosenIs (lowestPair (weightsFit (newLayout r) area cells (noteAll area cells s (replicate 5958 0)) s) (s .slots))) is
 
     only : firstCause (joinCauses L r l codePair) ≡ firstCause (when (isNone codePair) NoPair ∷ [])
     only = first-none (joinEarly L r l) (when (isNone codePair) NoPair ∷ []) (checked-none _ e)

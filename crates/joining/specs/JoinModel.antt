@@ -20,6 +20,7 @@ use Rattle.segment.specs.EntryLaws.{length-encoded}
 use Rattle.segment.specs.declared.Key.{Key}
 use Rattle.slot_map.specs.Bit.{bit, named}
 use Rattle.slot_map.specs.BitLaws.{bit-pow-same, bit-pow-other, bit-add-same, bit-add-other, set-named, clear-named}
+use Rattle.record.specs.Switch.{newLayout}
 use Rattle.record.specs.declared.Record.{Record}
 use Rattle.model.specs.Log.{View, Item, Placed, placeOf, placedSize, segmentOf, viewsOf, itemsOf, placedIn, logOf, sameKeys, sameKey, latest}
 use Rattle.model.specs.Operations.{logNow, isVersion, isHighest, objectOutside, isKept, keptOf, kept, allEncoded}
@@ -471,33 +472,33 @@ module _ (area cells : List ℕ) (short : length area ≤ 65536) (r : Record) (g
         second-part : partLength W (pairOf i j) j ≡ slotWeight W area cells notes (r .size) j i
         second-part = ap (λ (m : ℕ). partLength W m j) (swap i j) ∙ sym (slot-weight j i (λ e. apart (sym e)) (omega arith) h q)
 
-    fits-model : r .slots ≤ 32 → (i j : ℕ) → i < j → j < r .slots → weightsFit W area cells notes (logSplit r) i j ≡ joinFits W r log i j
-    unfolding weightsFit joinFits
-    fits-model most i j l h = go (named (r .map) i) refl (named (r .map) j) refl
-      where
-        weights : ℕ
-        weights = slotWeight W area cells notes (r .size) i j + slotWeight W area cells notes (r .size) j i
+  fits-model : r .slots ≤ 32 → (i j : ℕ) → i < j → j < r .slots → weightsFit (newLayout r) area cells notes (logSplit r) i j ≡ joinFits r log i j
+  unfolding weightsFit joinFits
+  fits-model most i j l h = go (named (r .map) i) refl (named (r .map) j) refl
+    where
+      weights : ℕ
+      weights = slotWeight (newLayout r) area cells notes (r .size) i j + slotWeight (newLayout r) area cells notes (r .size) j i
 
-        negated : (a b : ℕ) → leb a b ≡ not (ltb b a)
-        negated a b = at (ltb b a) refl
-          where
-            at : (t : Bool) → ltb b a ≡ t → leb a b ≡ not t
-            at true e = lt-leb a b (ltb-true b a e)
-            at false e = le-leb a b (omega (arith, ltb-false b a e))
+      negated : (a b : ℕ) → leb a b ≡ not (ltb b a)
+      negated a b = at (ltb b a) refl
+        where
+          at : (t : Bool) → ltb b a ≡ t → leb a b ≡ not t
+          at true e = lt-leb a b (ltb-true b a e)
+          at false e = le-leb a b (omega (arith, ltb-false b a e))
 
-        test : named (r .map) i ≡ true → named (r .map) j ≡ true →
-            leb (digestSize W + weights) (r .size) ≡ not (keptTooLong W r (keptLength W log (pairOf i j)))
-        test p q =
-            negated (digestSize W + weights) (r .size)
-            ∙ ap (λ (n : ℕ). not (ltb (r .size) (digestSize W + n))) (sym (pair-kept most i j l h p q))
+      test : named (r .map) i ≡ true → named (r .map) j ≡ true →
+          leb (digestSize (newLayout r) + weights) (r .size) ≡ not (keptTooLong r (keptLength (newLayout r) log (pairOf i j)))
+      test p q =
+          negated (digestSize (newLayout r) + weights) (r .size)
+          ∙ ap (λ (n : ℕ). not (ltb (r .size) (digestSize (newLayout r) + n))) (sym (pair-kept (newLayout r) most i j l h p q))
 
-        go : (p : Bool) → named (r .map) i ≡ p → (q : Bool) → named (r .map) j ≡ q →
-            both (both (named (r .map) i) (named (r .map) j)) (leb (digestSize W + weights) (r .size))
-            ≡ both (both (named (r .map) i) (named (r .map) j)) (not (keptTooLong W r (keptLength W log (pairOf i j))))
-        go true p true q = ap (both (both (named (r .map) i) (named (r .map) j))) (test p q)
-        go true p false q = both-false-left _ _ (both-false-right _ _ q) ∙ sym (both-false-left _ _ (both-false-right _ _ q))
-        go false p b q = both-false-left _ _ (both-false-left _ _ p) ∙ sym (both-false-left _ _ (both-false-left _ _ p))
+      go : (p : Bool) → named (r .map) i ≡ p → (q : Bool) → named (r .map) j ≡ q →
+          both (both (named (r .map) i) (named (r .map) j)) (leb (digestSize (newLayout r) + weights) (r .size))
+          ≡ both (both (named (r .map) i) (named (r .map) j)) (not (keptTooLong r (keptLength (newLayout r) log (pairOf i j))))
+      go true p true q = ap (both (both (named (r .map) i) (named (r .map) j))) (test p q)
+      go true p false q = both-false-left _ _ (both-false-right _ _ q) ∙ sym (both-false-left _ _ (both-false-right _ _ q))
+      go false p b q = both-false-left _ _ (both-false-left _ _ p) ∙ sym (both-false-left _ _ (both-false-left _ _ p))
 
-    -- The pair by the code's weights is the model's.
-    pub pair-model : r .slots ≤ 32 → lowestPair (weightsFit W area cells notes (logSplit r)) (r .slots) ≡ joinPair W r log
-    pair-model most = pair-same (weightsFit W area cells notes (logSplit r)) (joinFits W r log) (r .slots) (fits-model most)
+  -- The pair by the code's weights is the model's.
+  pub pair-model : r .slots ≤ 32 → lowestPair (weightsFit (newLayout r) area cells notes (logSplit r)) (r .slots) ≡ joinPair r log
+  pair-model most = pair-same (weightsFit (newLayout r) area cells notes (logSplit r)) (joinFits r log) (r .slots) (fits-model most)

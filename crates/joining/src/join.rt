@@ -8,6 +8,7 @@ use record::JoinAnswer;
 use record::Joined;
 use record::Record;
 use record::Refusal;
+use record::new_edition;
 use record::range::fits_lent;
 use segment::Edition;
 use starting::Check;
@@ -85,13 +86,13 @@ fn choose(edition: Edition, area: &[u8], index: &[u32], split: Split) -> Chosen
 pub fn join(rec: Record, area: &[u8], index: &[u32]) -> Joined
     ensures { λ r. ⌜ JoinPromise (rec .edition) rec (now (area .entry)) (now (index .entry)) r ⌝ }
 {
-    let edition = rec.edition;
+    let into = new_edition(rec);
     match check(rec, area.len(), index.len()) {
         Check::Refused(c) => Joined {
             answer: JoinAnswer::Refused(c),
             rec,
         },
-        Check::Passed => match choose(edition, area, index, split_of(rec)) {
+        Check::Passed => match choose(into, area, index, split_of(rec)) {
             Chosen::Pair(i, j) => Joined {
                 answer: JoinAnswer::Pair {
                     first: i as u32,

@@ -9,6 +9,7 @@ use lib.ListN.{length}
 use lib.Seq.{sets}
 use Rattle.segment.specs.declared.Key.{Key}
 use Rattle.record.specs.Answers.{formatSaid, recoverSaid, readSaid, startSaid, stepSaid, tellSaid, fewestSaid, convertSaid}
+use Rattle.record.specs.Switch.{switchSaid}
 use Rattle.record.specs.declared.Record.{Record}
 use Rattle.record.specs.declared.FormatAnswer.{FormatAnswer}
 use Rattle.record.specs.declared.ConvertAnswer.{ConvertAnswer}
@@ -24,9 +25,11 @@ use Rattle.record.specs.declared.Fewest.{Fewest}
 use Rattle.record.specs.declared.FewestAnswer.{FewestAnswer}
 use Rattle.record.specs.declared.Foretold.{Foretold}
 use Rattle.record.specs.declared.TellAnswer.{TellAnswer}
+use Rattle.record.specs.declared.Switching.{Switching}
 use Rattle.model.specs.Recovery.{imageLayout}
 use Rattle.model.specs.Conversion.{ConvertPromise}
 use Rattle.model.specs.Fewest.{FewestPromise}
+use Rattle.model.specs.Switching.{SwitchPromise}
 use Rattle.model.specs.Operations.{Operation}
 use Rattle.record.specs.declared.Tables.{Tables}
 use Rattle.model.specs.Refused.{Terms}
@@ -155,6 +158,15 @@ pub record StepCrossed (words words′ area area′ cells cells′ work : List �
   pub version-told : version′ ≡ toldAfter (stepped .answer) version
   pub says : words′ ≡ keptWords (decoded words .ok) words (stepped .rec)
   pub long : decoded words .ok ≡ true → length (stepped .rec .counts) ≡ 32
+
+-- ---- the switch, which takes the record alone (02, R-13)
+
+pub record SwitchCrossed (words words′ : List ℕ) (number : ℕ) : Type 0 where
+  pub switching : Switching
+  pub promised : SwitchPromise (decoded words .rec .edition) (decoded words .rec) switching
+  pub numbered : number ≡ switchSaid (switching .answer) .refused
+  pub says : words′ ≡ keptWords (decoded words .ok) words (switching .rec)
+  pub long : decoded words .ok ≡ true → length (switching .rec .counts) ≡ 32
 
 -- ---- the next store told
 

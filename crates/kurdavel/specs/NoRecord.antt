@@ -5,12 +5,14 @@ use Prim.Native.Nat.{ℕ, _<_}
 use mathlib.Core.Path.{_≡_, ap, _∙_, subst⁻¹}
 use mathlib.Core.Bool.{Bool, true, false, not}
 use mathlib.Core.List.{List}
+use mathlib.Core.Option.{Option, some}
 use native.Mathlib.Omega.{arith}
 use lib.ListN.{length}
 use Rattle.segment.specs.declared.Key.{Key}
-use Rattle.record.specs.Answers.{blank, readSaid, startSaid, stepSaid, tellSaid}
+use Rattle.record.specs.Answers.{Said, blank, taken, saidBy, readSaid, startSaid, stepSaid, tellSaid}
 use Rattle.record.specs.Range.{fitsLent}
 use Rattle.record.specs.RangeLaws.{blank-unfit}
+use Rattle.record.specs.declared.Refusal.{Refusal}
 use Rattle.record.specs.declared.Refusal.the-variants.{BadRecord}
 use Rattle.record.specs.declared.ReadAnswer.{ReadAnswer}
 use Rattle.record.specs.declared.StartAnswer.{StartAnswer}
@@ -23,11 +25,14 @@ use Rattle.record.specs.declared.Tables.{Tables}
 use Rattle.model.specs.Refused.{Terms}
 use Rattle.laws.specs.Starts.{early-bad}
 use Rattle.model.specs.Promises.{Begun, begun}
+use Rattle.model.specs.Causes.{firstCause}
+use Rattle.model.specs.Switching.{switchCauses}
 use Rattle.laws.specs.CauseLaws.{cause-first}
 use Rattle.words.specs.Words.{recordWords, isRecord, decoded}
 use Rattle.words.specs.WordLaws.{decoded-none}
 use Rattle.words.specs.declared.Decoded.{Decoded}
-use Rattle.kurdavel.specs.Crossing.{RecoverCrossed, ReadCrossed, ValueCrossed, storesAfter, StartCrossed, keptWords, StepCrossed, leftTold, toldAfter, placeTold, byteTold, TellCrossed}
+use Rattle.kurdavel.specs.Crossing.{RecoverCrossed, ReadCrossed, ValueCrossed, storesAfter, StartCrossed, keptWords, StepCrossed, leftTold, toldAfter, placeTold, byteTold, TellCrossed, SwitchCrossed}
+use Rattle.kurdavel.specs.CrossingLaws.{none-range}
 
 -- such words say the blank record, which fails the tests of 4 whatever is lent
 not-ok : (words : List ℕ) → isRecord words ≡ false → decoded words .ok ≡ false
@@ -90,6 +95,15 @@ step-none {words = words} {words′ = words′} {left = left} {version = version
       t .index-same,
       x .left-told ∙ ap (λ (a : StepAnswer). leftTold a left) e,
       x .version-told ∙ ap (λ (a : StepAnswer). toldAfter a version) e,
+    )
+
+pub switch-none : {words words′ : List ℕ} {number : ℕ} → isRecord words ≡ false → SwitchCrossed words words′ number → (number ≡ 4) × (words′ ≡ words)
+unfolding saidBy
+switch-none {words} {words′} f x =
+    let e : firstCause (switchCauses (decoded words .rec .edition) (decoded words .rec)) ≡ some BadRecord =
+    cause-first _ _ (ap not (none-range words f)) in (
+      x .numbered ∙ ap (λ (s : Said). s .refused) (x .promised .says ∙ ap (λ (c : Option Refusal). saidBy c taken) e),
+      kept-none words words′ (x .switching .rec) f (x .says),
     )
 
 pub tell-none : {words area work : List ℕ} {place byte number : ℕ} → isRecord words ≡ false → TellCrossed words area work place byte number

@@ -4,7 +4,6 @@ use Prim.Native.Nat.{ℕ, _<_}
 use mathlib.Core.Path.{_≡_, refl, sym, _∙_, ap}
 use mathlib.Core.Bool.{Bool, true, false, not}
 use mathlib.Core.List.{List}
-use lib.Dec.{leb}
 use lib.ListN.{length}
 use lib.Seq.{sets}
 use borrow.Author.Tests.{not-false}
@@ -15,6 +14,7 @@ use Rattle.segment.specs.Written.{entryOf}
 use Rattle.segment.specs.declared.Key.{Key}
 use Rattle.record.specs.Answers.{bare, startSaid, withPending}
 use Rattle.record.specs.Range.{fitsLent}
+use Rattle.record.specs.Switch.{newLayout}
 use Rattle.record.specs.RangeLaws.{fits-bare}
 use Rattle.record.specs.declared.Pending.{Pending}
 use Rattle.record.specs.declared.Record.{Record}
@@ -52,8 +52,8 @@ unfolding laidBegun planOf pick
 laid-bare r e work = go (fitsHead (r .edition) r e)
   where
     go : (t : Bool)
-        → behind r (laidBegun (bare r) (pick t (laidAppend (r .edition) e) (laidHead (r .edition) (bare r) e)) work)
-        ≡ laidBegun r (pick t (laidAppend (r .edition) e) (laidHead (r .edition) r e)) work
+        → behind r (laidBegun (bare r) (pick t (laidAppend (r .edition) e) (laidHead (newLayout r) (bare r) e)) work)
+        ≡ laidBegun r (pick t (laidAppend (r .edition) e) (laidHead (newLayout r) r e)) work
     go true = refl
     go false = refl
 

@@ -7,9 +7,9 @@ use native.Mathlib.Omega.{arith}
 use lib.ListN.{length, length-set, getD, take, set}
 use lib.Seq.{sets}
 use borrow.Author.Tests.{not-false}
-use Rattle.segment.specs.Layout.{Layout, digestSize}
+use Rattle.segment.specs.Layout.{Layout}
 use Rattle.record.specs.Answers.{bare, storesLeft, stepSaid, tellSaid, withPending}
-use Rattle.record.specs.Range.{countsGood, fitsLent}
+use Rattle.record.specs.Range.{countsGood, mostPresent, fitsLent}
 use Rattle.record.specs.RangeLaws.{lent}
 use Rattle.record.specs.declared.Pending.{Pending}
 use Rattle.record.specs.declared.Pending.the-variants.{Idle, Append, NewHead, Clean, Forget}
@@ -20,7 +20,7 @@ use Rattle.record.specs.declared.Stepped.{Stepped}
 use Rattle.record.specs.declared.StepAnswer.{StepAnswer}
 use Rattle.record.specs.declared.TellAnswer.{TellAnswer}
 use Rattle.model.specs.Promises.{StepPromise}
-use Rattle.laws.specs.OperationsKept.{edition-roomy, edition-laws}
+use Rattle.laws.specs.OperationsKept.{edition-laws}
 use Rattle.telling.specs.Agree.{agreesWith}
 use Rattle.telling.specs.Next.{PendingIn}
 use Rattle.telling.specs.BareLaws.{found-bad, front-fits, found-front}
@@ -48,7 +48,7 @@ pub record AdvanceReady (r : Record) (area : List ℕ) : Type 0 where
   pub inside : PendingIn r (r .pending)
   pub agrees : agreesWith (r .edition) r (r .pending) ≡ true
   pub size-some : 0 < r .size
-  pub counts-high : countsGood (r .size - digestSize (r .edition)) (r .counts) ≡ true
+  pub counts-high : countsGood (mostPresent (r .size)) (r .counts) ≡ true
 
 -- What the last step makes of the words, given the area with its store.
 pub record Finished (words words′ area cells cells′ : List ℕ) (left left′ version version′ number : ℕ) : Type 0 where
@@ -165,7 +165,7 @@ module _ (words area work : List ℕ) where
         → StepCrossed words words area area cells cells work left left version version number
     unfolding leftTold toldAfter
     on-refused c e m =
-        step-crossed {b = StepAnswer.Refused c} refl (found-refused _ (edition-roomy _) says area cells work c e refl) (same-words words half, said-long words) refl m refl refl
+        step-crossed {b = StepAnswer.Refused c} refl (found-refused _ says area cells work c e refl) (same-words words half, said-long words) refl m refl refl
 
     pub on-stored : (p b : ℕ) {words′ : List ℕ} → found (length cells) ≡ TellAnswer.At p b → 1 < word words 16
         → words′ ≡ set words 16 (word words 16 - 1)
@@ -182,7 +182,7 @@ module _ (words area work : List ℕ) where
         let its : after ≡ withPending (recordIn words) (oneLess (recordIn words .pending)) =
         ap (λ (d : Decoded). withPending (d .rec) (oneLess (d .rec .pending))) is in
         step-crossed {x = record { answer = StepAnswer.Left (word words 16 - 1); rec = after }} refl
-        (found-stored _ (edition-roomy _) says area cells work p b e
+        (found-stored _ says area cells work p b e
         (advance-left (says .edition) says (set area p b) cells k-said more refl refl) refl) (
           kept-on words words′ after (ap (λ (d : Decoded). d .ok) is)
               (w
@@ -198,13 +198,13 @@ module _ (words area work : List ℕ) where
         → Finished words words′ (set area p b) cells cells′ left left′ version version′ number
         → StepCrossed words words′ area (set area p b) cells cells′ work left left′ version version′ number
     on-last p b e f =
-        step-crossed refl (found-stored _ (edition-roomy _) says area cells work p b e (f .advances) (f .same-length)) (f .says, f .long) refl (f .numbered)
+        step-crossed refl (found-stored _ says area cells work p b e (f .advances) (f .same-length)) (f .says, f .long) refl (f .numbered)
         (f .left-told) (f .version-told)
 
     pub on-ready : (p b : ℕ) → found (length cells) ≡ TellAnswer.At p b → AdvanceReady says (set area p b)
     on-ready p b e =
         let fit = found-fit (length cells) p b e in
-        let k = found-known _ (edition-roomy _) says area cells work fit p b e in
+        let k = found-known _ says area cells work fit p b e in
         let l = lent (says .edition) says (length area) (length cells) fit in
         record {
           left = k .left;

@@ -55,6 +55,7 @@ pub mod convert;
 pub mod fewest;
 pub mod scan;
 pub mod step;
+pub mod switch;
 
 #[no_mangle]
 pub extern "C" fn kurdavel_format(slots: u32, size: u32, edition: u32, area: &mut [u8]) -> u32

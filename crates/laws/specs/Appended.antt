@@ -14,8 +14,9 @@ use Rattle.segment.specs.declared.Digest.{Digest}
 use Rattle.record.specs.RangeLaws.{map-in}
 use Rattle.record.specs.declared.Record.{Record}
 use Rattle.model.specs.Log.{View, Head, Item, Placed, scanned, itemsOf, endOf, isDamaged, placedIn, viewsOf, keysOf, highest, nextVersion}
-use Rattle.model.specs.Recovery.{logSlots, logUnder, recordUnder, recovered}
+use Rattle.model.specs.Recovery.{later, logSlots, logUnder, recordUnder, recovered}
 use Rattle.model.specs.Operations.{logNow, countNew, appendedRecord}
+use Rattle.laws.specs.Editions.{later-same}
 use Rattle.laws.specs.HeadLaws.{top-stays}
 use Rattle.laws.specs.LogLaws.{partOf, part-picked, part-same, one-slot, OnePart, part-entered, Entered, placedAt, placed-append, entered-versions, entered-highest, entered-keys, scanned-undamaged, items-scanned, end-scanned, alike-view}
 use Rattle.laws.specs.Counted.{entered-counts}
@@ -50,7 +51,7 @@ module _ (L : Layout) (v v′ : ℕ → View) (n m : ℕ) (h : Head) (x : Item) 
   head-named = map-in n (h .slot) (h .digest .map) (f .map-good) .head-named
 
   own-layout : v (h .slot) .layout ≡ L
-  own-layout = f .editions (h .slot) (f .top .below) head-named
+  own-layout = f .own
 
   new-part : partOf v′ (logSlots h) (h .slot) ≡ partOf v (logSlots h) (h .slot) ++ placed ∷ []
   unfolding placedIn
@@ -79,7 +80,8 @@ module _ (L : Layout) (v v′ : ℕ → View) (n m : ℕ) (h : Head) (x : Item) 
           map-good = f .map-good;
           digests = λ i l q. digested i l q (ℕ-discrete i (h .slot));
           next-set = f .next-set;
-          editions = λ i l q. alike i l q (ℕ-discrete i (h .slot));
+          own = a .layout ∙ f .own;
+          editions = λ i l q. before i l q (ℕ-discrete i (h .slot));
           scans = λ i l q. whole i l q (ℕ-discrete i (h .slot));
           versions = entered-versions log placed after appended-log above (f .versions);
           keys = omega (arith, entered-keys log placed after appended-log, t .room);
@@ -89,9 +91,9 @@ module _ (L : Layout) (v v′ : ℕ → View) (n m : ℕ) (h : Head) (x : Item) 
         digested i l q (yes o) = (h .digest, ap (λ (k : ℕ). v′ k .digest) o ∙ a .digest ∙ f .top .own)
         digested i l q (no o) = let d = f .digests i l q in (d .0, ap (λ (w : View). w .digest) (a .others i l o) ∙ d .1)
 
-        alike : (i : ℕ) → i < n → logSlots h i ≡ true → Dec (i ≡ h .slot) → v′ i .layout ≡ L
-        alike i l q (yes o) = ap (λ (k : ℕ). v′ k .layout) o ∙ a .layout ∙ f .editions (h .slot) (f .top .below) head-named
-        alike i l q (no o) = ap (λ (w : View). w .layout) (a .others i l o) ∙ f .editions i l q
+        before : (i : ℕ) → i < n → logSlots h i ≡ true → Dec (i ≡ h .slot) → later (v′ i .layout) L ≡ false
+        before i l q (yes o) = ap (λ (K : Layout). later K L) (ap (λ (k : ℕ). v′ k .layout) o ∙ a .layout ∙ f .own) ∙ later-same L
+        before i l q (no o) = ap (λ (w : View). later (w .layout) L) (a .others i l o) ∙ f .editions i l q
 
         whole : (i : ℕ) → i < n → logSlots h i ≡ true → Dec (i ≡ h .slot) → isDamaged (v′ i .scan) ≡ false
         whole i l q (yes o) = ap (λ (k : ℕ). isDamaged (v′ k .scan)) o ∙ scanned-undamaged (v′ (h .slot) .scan) (a .scan)

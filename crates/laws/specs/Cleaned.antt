@@ -17,7 +17,7 @@ use Rattle.record.specs.RangeLaws.{map-in}
 use Rattle.record.specs.declared.Record.{Record}
 use Rattle.model.specs.Log.{View, Head, Placed, viewsOf, logOf, keysOf, versionShared, highest, nextVersion}
 use Rattle.model.specs.Counts.{isPresent, countsOf, renewedCounts}
-use Rattle.model.specs.Recovery.{logUnder, recordUnder, recovered}
+use Rattle.model.specs.Recovery.{later, logUnder, recordUnder, recovered}
 use Rattle.model.specs.Operations.{logNow, newSlot, digestWith, outsideSlots, kept, placedFrom, renewedRecord}
 use Rattle.laws.specs.Members.{clash, In}
 use Rattle.laws.specs.Keys.{keys-same}
@@ -44,9 +44,9 @@ pub record StandsFor (m victims : ℕ) (log stand : List Placed) (next : ℕ) : 
 
 -- ---- on views
 
-module _ (L : Layout) (v v′ : ℕ → View) (n s m : ℕ) (h : Head) (victims : ℕ) (next : Version) (stand : List Placed) (f : Sound L v n m h)
+module _ (L W : Layout) (up : later L W ≡ false) (v v′ : ℕ → View) (n s m : ℕ) (h : Head) (victims : ℕ) (next : Version) (stand : List Placed) (f : Sound L v n m h)
     (sub : within victims (h .digest .map) ≡ true) (w : StandsFor m victims (logUnder v n h) stand (next .0))
-    (c : Heads L v v′ n (newSlot (recordUnder L v n s m h)) (digestWith (recordUnder L v n s m h) victims next) (kept victims stand)) where
+    (c : Heads W v v′ n (newSlot (recordUnder L v n s m h)) (digestWith (recordUnder L v n s m h) victims next) (kept victims stand)) where
   -- the new head, its log, the entries kept in their places, and what is left of the old log
   abbrev cleaned : Head
   cleaned = record { slot = newSlot (recordUnder L v n s m h); digest = digestWith (recordUnder L v n s m h) victims next }
@@ -55,13 +55,13 @@ module _ (L : Layout) (v v′ : ℕ → View) (n s m : ℕ) (h : Head) (victims 
   after = logUnder v′ n cleaned
 
   abbrev moved : List Placed
-  moved = placedFrom L (newSlot (recordUnder L v n s m h)) (digestSize L) (kept victims stand)
+  moved = placedFrom W (newSlot (recordUnder L v n s m h)) (digestSize W) (kept victims stand)
 
   abbrev rest : List Placed
   rest = logOf v (outsideSlots (h .digest .map) victims) n
 
   parts : OnePart [] moved rest after
-  parts = new-log L v v′ n s m h victims next (kept victims stand) f sub c
+  parts = new-log L W up v v′ n s m h victims next (kept victims stand) f sub c
 
   same-rest : outside victims stand ≡ rest
   same-rest = w .outside-same ∙ outside-log v (h .digest .map) victims n
@@ -70,7 +70,7 @@ module _ (L : Layout) (v v′ : ℕ → View) (n s m : ℕ) (h : Head) (victims 
   pub cleaned-log : Cleaned victims stand moved after
   cleaned-log =
       record {
-        entries = entries-placed L (newSlot (recordUnder L v n s m h)) (digestSize L) (kept victims stand);
+        entries = entries-placed W (newSlot (recordUnder L v n s m h)) (digestSize W) (kept victims stand);
         members = rw same-rest (part-members moved rest after parts);
       }
 
@@ -78,15 +78,15 @@ module _ (L : Layout) (v v′ : ℕ → View) (n s m : ℕ) (h : Head) (victims 
   cleaned-keys = sym (keys-same (rest ++ moved) after (part-members moved rest after parts))
 
   -- the victims have no present bytes, and the new head those of the objects kept
-  pub cleaned-counts : countsOf after ≡ renewedCounts L victims (newSlot (recordUnder L v n s m h)) (kept victims stand) (countsOf (logUnder v n h))
+  pub cleaned-counts : countsOf after ≡ renewedCounts W victims (newSlot (recordUnder L v n s m h)) (kept victims stand) (countsOf (logUnder v n h))
   cleaned-counts =
-      renewed-counts L victims (newSlot (recordUnder L v n s m h)) (digestSize L) (logUnder v n h) stand after cleaned-log
+      renewed-counts W victims (newSlot (recordUnder L v n s m h)) (digestSize W) (logUnder v n h) stand after cleaned-log
       (subst (λ (l : List Placed). OnePart [] moved l after) (sym (outside-log v (h .digest .map) victims n)) parts) (w .versions)
       (λ y i d.
       clash (named (h .digest .map) (newSlot (recordUnder L v n s m h)))
       (ap (named (h .digest .map)) (sym d) ∙ log-in v (named (h .digest .map)) n y i .picked)
       (clear-named (h .digest .map) (newSlot (recordUnder L v n s m h))
-      (slot-clear L v v′ n s m h victims next (kept victims stand) f sub c)))
+      (slot-clear L W up v v′ n s m h victims next (kept victims stand) f sub c)))
       (w .outside-present)
 
   -- no fewer slots are free: a victim goes for the one that comes
@@ -94,12 +94,12 @@ module _ (L : Layout) (v v′ : ℕ → View) (n s m : ℕ) (h : Head) (victims 
   cleaned-used some-victim =
       renewed-le n (h .digest .map) victims (newSlot (recordUnder L v n s m h)) sub
       (map-in n (h .slot) (h .digest .map) (f .map-good) .below) some-victim
-      (slot-below L v v′ n s m h victims next (kept victims stand) f sub c)
-      (slot-clear L v v′ n s m h victims next (kept victims stand) f sub c)
+      (slot-below L W up v v′ n s m h victims next (kept victims stand) f sub c)
+      (slot-clear L W up v v′ n s m h victims next (kept victims stand) f sub c)
 
-  pub cleaned-sound : 0 < victims → Sound L v′ n m cleaned
+  pub cleaned-sound : 0 < victims → Sound W v′ n m cleaned
   cleaned-sound some-victim =
-      new-sound L v v′ n s m h victims next (kept victims stand) f sub c (omega (arith, w .below))
+      new-sound L W up v v′ n s m h victims next (kept victims stand) f sub c (omega (arith, w .below))
       (omega (arith, cleaned-used some-victim, map-in n (h .slot) (h .digest .map) (f .map-good) .some-free))
       (clean-shared-any victims stand moved after cleaned-log (λ k. rw same-rest (part-count moved rest after parts k)) (w .versions))
       (omega (arith, clean-keys-count victims stand moved after cleaned-log, w .keys))
@@ -110,39 +110,39 @@ module _ (L : Layout) (v v′ : ℕ → View) (n s m : ℕ) (h : Head) (victims 
 
 -- ---- on areas
 
-module _ (L : Layout) (n s m : ℕ) (area area′ : List ℕ) (r : Record) (victims : ℕ) (next : Version) (stand : List Placed)
+module _ (L W : Layout) (up : later L W ≡ false) (n s m : ℕ) (area area′ : List ℕ) (r : Record) (victims : ℕ) (next : Version) (stand : List Placed)
     (e : recovered L n s m area ≡ some r) (sub : within victims (r .map) ≡ true) (w : StandsFor m victims (logNow area r) stand (next .0))
-    (c : Heads L (viewsOf area s) (viewsOf area′ s) n (newSlot r) (digestWith r victims next) (kept victims stand)) where
+    (c : Heads W (viewsOf area s) (viewsOf area′ s) n (newSlot r) (digestWith r victims next) (kept victims stand)) where
   pub cleaned-cleaned :
-      Cleaned victims stand (placedFrom L (newSlot r) (digestSize L) (kept victims stand))
-      (logNow area′ (renewedRecord L area r victims (kept victims stand) next))
+      Cleaned victims stand (placedFrom W (newSlot r) (digestSize W) (kept victims stand))
+      (logNow area′ (renewedRecord W area r victims (kept victims stand) next))
   cleaned-cleaned =
       recovered-case L n s m area
       (λ (k : Record).
       within victims (k .map) ≡ true
       → StandsFor m victims (logNow area k) stand (next .0)
-      → Heads L (viewsOf area s) (viewsOf area′ s) n (newSlot k) (digestWith k victims next) (kept victims stand)
-      → Cleaned victims stand (placedFrom L (newSlot k) (digestSize L) (kept victims stand))
-      (logNow area′ (renewedRecord L area k victims (kept victims stand) next)))
-      (λ h l f. cleaned-log L (viewsOf area s) (viewsOf area′ s) n s m h victims next stand f) r e sub w c
+      → Heads W (viewsOf area s) (viewsOf area′ s) n (newSlot k) (digestWith k victims next) (kept victims stand)
+      → Cleaned victims stand (placedFrom W (newSlot k) (digestSize W) (kept victims stand))
+      (logNow area′ (renewedRecord W area k victims (kept victims stand) next)))
+      (λ h l f. cleaned-log L W up (viewsOf area s) (viewsOf area′ s) n s m h victims next stand f) r e sub w c
 
   pub cleaned-recovered : length area′ ≡ length area → 0 < victims
-      → recovered L n s m area′ ≡ some (renewedRecord L area r victims (kept victims stand) next)
+      → recovered W n s m area′ ≡ some (renewedRecord W area r victims (kept victims stand) next)
   cleaned-recovered same-length some-victim =
       recovered-case L n s m area
       (λ (k : Record).
       within victims (k .map) ≡ true
       → StandsFor m victims (logNow area k) stand (next .0)
-      → Heads L (viewsOf area s) (viewsOf area′ s) n (newSlot k) (digestWith k victims next) (kept victims stand)
-      → recovered L n s m area′ ≡ some (renewedRecord L area k victims (kept victims stand) next))
+      → Heads W (viewsOf area s) (viewsOf area′ s) n (newSlot k) (digestWith k victims next) (kept victims stand)
+      → recovered W n s m area′ ≡ some (renewedRecord W area k victims (kept victims stand) next))
       (λ h l f b q d.
-      sound-recovered L n s m area′ (cleaned L (viewsOf area s) (viewsOf area′ s) n s m h victims next stand f b q d)
+      sound-recovered W n s m area′ (cleaned L W up (viewsOf area s) (viewsOf area′ s) n s m h victims next stand f b q d)
       (subst (Allowed n s m) (sym same-length) l)
-      (cleaned-sound L (viewsOf area s) (viewsOf area′ s) n s m h victims next stand f b q d some-victim) ∙
+      (cleaned-sound L W up (viewsOf area s) (viewsOf area′ s) n s m h victims next stand f b q d some-victim) ∙
       ap some
       (rw (
-        new-end L (viewsOf area s) (viewsOf area′ s) n s m h victims next (kept victims stand) f b d,
-        cleaned-next L (viewsOf area s) (viewsOf area′ s) n s m h victims next stand f b q d,
-        cleaned-keys L (viewsOf area s) (viewsOf area′ s) n s m h victims next stand f b q d,
-        cleaned-counts L (viewsOf area s) (viewsOf area′ s) n s m h victims next stand f b q d,
+        new-end L W up (viewsOf area s) (viewsOf area′ s) n s m h victims next (kept victims stand) f b d,
+        cleaned-next L W up (viewsOf area s) (viewsOf area′ s) n s m h victims next stand f b q d,
+        cleaned-keys L W up (viewsOf area s) (viewsOf area′ s) n s m h victims next stand f b q d,
+        cleaned-counts L W up (viewsOf area s) (viewsOf area′ s) n s m h victims next stand f b q d,
       ))) r e sub w c

@@ -19,6 +19,7 @@ use Rattle.segment.specs.DigestLaws.{digest-number-fits, digest-map-fits, diges
 use Rattle.segment.specs.Digest.{digestOf}
 use Rattle.segment.specs.declared.Digest.{Digest}
 use Rattle.segment.specs.declared.Key.{Key}
+use Rattle.slot_map.specs.Bit.{named}
 use Rattle.record.specs.Range.{slotsGood, sizeGood, cellsGood}
 use Rattle.record.specs.RangeLaws.{between-low}
 use Rattle.record.specs.declared.ConvertAnswer.{ConvertAnswer}
@@ -27,20 +28,21 @@ use Rattle.record.specs.declared.Refusal.the-variants.{Geometry}
 use Rattle.record.specs.declared.Record.{Record}
 use Rattle.model.specs.Log.{View, Head, Item, Placed, itemsOf, endOf, scanned, scan, segmentOf, viewsOf, headOf, isDamaged, keysOf}
 use Rattle.model.specs.Causes.{Cause, when, firstCause}
-use Rattle.model.specs.Recovery.{geometryBad, headElse, logSlots, logUnder, imageLayout, imageCauses, keyCauses, recovered, recordUnder}
+use Rattle.model.specs.Recovery.{geometryBad, headElse, logSlots, logUnder, imageLayout, later, laterEdition, otherEdition, imageCauses, imageCausesBy, keyCauses, recovered, recordUnder}
 use Rattle.model.specs.Operations.{logNow, allEncoded}
 use Rattle.model.specs.Promises.{areaUnless}
 use Rattle.model.specs.Scanned.{imageLog}
 use Rattle.model.specs.Conversion.{entriesIn, slotTooLong, versionTooWide, nextTooWide, slotTooWide, imageSlots, fitCauses, convertCauses, convertedSlots, convertedImage, convertAnswer, ConvertPromise}
-use Rattle.laws.specs.CauseLaws.{cause-false, cause-rest, cause-none, causes-none, no-cause, none-left, first-none}
+use Rattle.laws.specs.CauseLaws.{NoCause, cause-false, cause-rest, cause-none, causes-none, no-cause, none-left, first-none}
+use Rattle.laws.specs.Editions.{later-same, formed-other}
 use Rattle.laws.specs.Stores.{slot-inside, length-segment}
 use Rattle.laws.specs.Scans.{Scans, done, more, itemsFrom, itemEntries, scan-scans, scans-high, scans-total, scans-items}
 use Rattle.laws.specs.NewHeadBytes.{length-headBytes}
 use Rattle.laws.specs.HeadLaws.{top-stays}
-use Rattle.laws.specs.LogLaws.{anyBelow, below-none, none-below, both-true-false, both-of-true, log-same, scan-whole, alike-view}
+use Rattle.laws.specs.LogLaws.{AllOf, editions-one, one-edition, before-editions, anyBelow, below-none, none-below, both-true-false, both-of-true, log-same, scan-whole, alike-view}
 use Rattle.laws.specs.MapLaws.{valueAt}
 use Rattle.laws.specs.Moved.{Moved, moved-log, moved-keys, moved-shared, moved-highest, moved-present}
-use Rattle.laws.specs.RecoverLaws.{Sound, digest-in, segment-bytes, head-slot, log-whole, sound-clear, sound-head, clear-head, lent-clear, sound-recovered, recovered-facts}
+use Rattle.laws.specs.RecoverLaws.{Sound, digest-in, segment-bytes, head-slot, sound-clear, sound-head, clear-head, lent-clear, sound-recovered, recovered-facts, recovered-image}
 use Rattle.laws.specs.ConvertedSlots.{Convertible, rewritten-head, viewIn, convertible-short, convertible-bytes, bytes-slots, short-slots, slots-short, length-slots, logged-view, free-view}
 
 -- ---- versions
@@ -98,21 +100,6 @@ narrow-versions K (e ∷ es) f =
 
 -- ---- entries
 
--- an entry of one layout whose version is the other's is one of the other
-formed-other : (L K : Layout) (x : Entry) → WellFormed L x → x .version < versionLimit K → WellFormed K x
-formed-other L K x f h =
-    record {
-      length-known = known-value (x .value) (f .length-known);
-      table-fits = f .table-fits;
-      key-fits = f .key-fits;
-      version-good = version-good K (x .version) (version-positive L (x .version) (f .version-good)) h;
-      value-bytes = f .value-bytes;
-    }
-  where
-    known-value : (o : Option (List ℕ)) → lengthKnown L o ≡ true → lengthKnown K o ≡ true
-    known-value none e = unfold lengthKnown in refl
-    known-value (some b) e = unfold lengthKnown in ap not (known-either K L (length b)) ∙ e
-
 scans-formed : {L : Layout} {s : List ℕ} {at e : ℕ} {is : List Item} → Bytes s → Scans L s at is e
     → (x : Entry) → List·Memᴰ x (itemEntries is) → WellFormed L x
 scans-formed h (done p) x m = absurd (List·Memᴰ·not-nil m)
@@ -127,7 +114,8 @@ items-entries K at (e ∷ es) = ap (λ (l : List Entry). e ∷ l) (items-entries
 
 -- ---- the slots of the log of a sound image
 
-module _ (L : Layout) (n s m : ℕ) (area : List ℕ) (bytes : Bytes area) (whole : length area ≡ n * s) (h : Head) (f : Sound L (viewsOf area s) n m h) where
+module _ (L : Layout) (n s m : ℕ) (area : List ℕ) (bytes : Bytes area) (whole : length area ≡ n * s) (h : Head) (f : Sound L (viewsOf area s) n m h)
+    (one : AllOf L (viewsOf area s) (logSlots h) n) where
   abbrev v : ℕ → View
   v = viewsOf area s
 
@@ -146,14 +134,15 @@ module _ (L : Layout) (n s m : ℕ) (area : List ℕ) (bytes : Bytes area) (whol
     own-bytes = segment-bytes area s i bytes
 
     own-scans : Scans L b (digestSize L) (itemsOf (v i .scan)) (endOf (v i .scan))
-    own-scans = scan-scans L b (log-whole L n s m area h f i l q)
+    own-scans =
+        scan-scans L b (ap (λ (K : Layout). scan K b) (sym (one i l q)) ∙ scan-whole (v i .scan) (f .scans i l q))
 
     says : own-digest ≡ digestOf L b
-    says = digest-in L b own-digest (f .editions i l q) (f .digests i l q .1)
+    says = digest-in L b own-digest (one i l q) (f .digests i l q .1)
 
     -- written in its own layout it is viewed as it is
     pub own-view : v i ≡ viewIn L own-digest (entriesIn (v i))
-    own-view = λ k. record { layout = f .editions i l q k; digest = f .digests i l q .1 k; scan = scanned-so k }
+    own-view = λ k. record { layout = one i l q k; digest = f .digests i l q .1 k; scan = scanned-so k }
       where
         scanned-so :
             v i .scan ≡ scanned (itemsFrom L (digestSize L) (entriesIn (v i))) (digestSize L + length (allEncoded L (entriesIn (v i))))
@@ -249,6 +238,10 @@ module _ (K : Layout) (v : ℕ → View) (n s : ℕ) (some-byte : 0 < s) (h : He
   pub made-bytes : Bytes target
   made-bytes = bytes-slots K v picks s n (λ i l q. convertible-bytes K s (v i) (digest i l q) (can i l q))
 
+  -- All its slots are of one edition.
+  pub target-one : AllOf K w picks n
+  target-one i l q = ap (λ (x : View). x .layout) (target-view i l q)
+
   -- Under the same head, the log is sound where it was.
   pub target-sound : (L : Layout) (m : ℕ) → Sound L v n m h → logSlots h (h .slot) ≡ true → Sound K w n m h
   unfolding isDamaged
@@ -259,7 +252,8 @@ module _ (K : Layout) (v : ℕ → View) (n s : ℕ) (some-byte : 0 < s) (h : He
         map-good = f .map-good;
         digests = λ i l q. (digest i l q, same-digest i l q ∙ can i l q .has-digest);
         next-set = f .next-set;
-        editions = λ i l q. ap (λ (x : View). x .layout) (target-view i l q);
+        own = target-one (h .slot) (f .top .below) own;
+        editions = λ i l q. ap (λ (M : Layout). later M K) (target-one i l q) ∙ later-same K;
         scans = λ i l q. ap (λ (x : View). isDamaged (x .scan)) (target-view i l q);
         versions = sym (moved-shared target-moved) ∙ f .versions;
         keys = rw (← moved-keys target-moved) (f .keys);
@@ -267,55 +261,65 @@ module _ (K : Layout) (v : ℕ → View) (n s : ℕ) (some-byte : 0 < s) (h : He
 
 -- ---- the call on an image whose head is known
 
-module _ (L : Layout) (n s m : ℕ) (area : List ℕ) (h : Head) (f : Sound L (viewsOf area s) n m h) where
-  abbrev views : ℕ → View
-  views = viewsOf area s
+module _ (L : Layout) (n s m : ℕ) (area : List ℕ) (h : Head) (f : Sound L (viewsOf area s) n m h) (one : AllOf L (viewsOf area s) (logSlots h) n)
+  where
+    abbrev views : ℕ → View
+    views = viewsOf area s
 
-  head-is : headOf views n ≡ some h
-  head-is = sound-head L views n m h f
+    head-is : headOf views n ≡ some h
+    head-is = sound-head L views n m h f
 
-  its-layout : imageLayout n s area ≡ L
-  unfolding headElse
-  its-layout =
-      ap (λ (o : Option Head). views (headElse o .slot) .layout) head-is ∙ f .editions (h .slot) (f .top .below) (head-slot L n s m area h f)
+    its-layout : imageLayout n s area ≡ L
+    unfolding headElse
+    its-layout =
+        ap (λ (o : Option Head). views (headElse o .slot) .layout) head-is ∙ f .own
 
-  pub image-converted : convertedImage n s area ≡ convertedSlots (otherLayout L) views (logSlots h) s n
-  unfolding headElse
-  image-converted =
-      ap₂ (λ (Y : Layout) (o : Option Head). convertedSlots (otherLayout Y) views (logSlots (headElse o)) s n) its-layout head-is
+    pub image-converted : convertedImage n s area ≡ convertedSlots (otherLayout L) views (logSlots h) s n
+    unfolding headElse
+    image-converted =
+        ap₂ (λ (Y : Layout) (o : Option Head). convertedSlots (otherLayout Y) views (logSlots (headElse o)) s n) its-layout head-is
 
-  abbrev lengths : ℕ → Cause
-  lengths k = when (either (geometryBad n s (length area)) (geometryBad n s k)) Geometry
+    abbrev lengths : ℕ → Cause
+    lengths k = when (either (geometryBad n s (length area)) (geometryBad n s k)) Geometry
 
-  abbrev fits : List Cause
-  fits = fitCauses (otherLayout L) views (logSlots h) s n
+    abbrev fits : List Cause
+    fits = fitCauses (otherLayout L) views (logSlots h) s n
 
-  its-causes : (k : ℕ) → firstCause (convertCauses n s area k) ≡ firstCause (lengths k ∷ (imageCauses L views n (some h) ++ fits))
-  unfolding headElse
-  its-causes k =
-      ap₂
-      (λ (Y : Layout) (o : Option Head).
-      firstCause (lengths k ∷ (imageCauses Y views n o ++ fitCauses (otherLayout Y) views (logSlots (headElse o)) s n))) its-layout head-is
+    -- what it asks of the image
+    abbrev image : List Cause
+    image = imageCausesBy (otherEdition L views (logSlots h) n) views n (some h)
 
-  image-passes : firstCause (imageCauses L views n (some h)) ≡ none
-  image-passes = none-left (imageCauses L views n (some h)) (keyCauses views n m (some h)) (causes-none _ (sound-clear L views n m h f))
+    its-causes : (k : ℕ) → firstCause (convertCauses n s area k) ≡ firstCause (lengths k ∷ (image ++ fits))
+    unfolding headElse
+    its-causes k =
+        ap₂
+        (λ (Y : Layout) (o : Option Head).
+        firstCause
+        (lengths k ∷ (imageCausesBy (otherEdition Y views (logSlots (headElse o)) n) views n o ++ fitCauses (otherLayout Y) views (logSlots (headElse o)) s n)))
+        its-layout head-is
 
-  -- It is accepted exactly if both lengths are right and neither 29 nor 30 holds.
-  pub image-accepted : (k : ℕ) → geometryBad n s (length area) ≡ false → geometryBad n s k ≡ false
-      → slotTooLong (otherLayout L) views (logSlots h) s n ≡ false → slotTooWide (otherLayout L) views (logSlots h) n ≡ false
-      → firstCause (convertCauses n s area k) ≡ none
-  image-accepted k g j short narrow =
-      its-causes k ∙
-      cause-none (lengths k) (imageCauses L views n (some h) ++ fits) (either-false _ _ g j)
-      (first-none (imageCauses L views n (some h)) fits image-passes ∙ causes-none fits (short, (narrow, tt)))
+    image-passes : firstCause image ≡ none
+    image-passes =
+        let c = sound-clear L views n m h f in
+        causes-none image
+        (c .0, (c .1 .0, (c .1 .1 .0, (c .1 .1 .1 .0, (one-edition views (logSlots h) n L one, (c .1 .1 .1 .1 .1 .0, (c .1 .1 .1 .1 .1 .1 .0, tt)))))))
 
-  pub accepted-fits : (k : ℕ) → firstCause (convertCauses n s area k) ≡ none
-      → (slotTooLong (otherLayout L) views (logSlots h) s n ≡ false) × (slotTooWide (otherLayout L) views (logSlots h) n ≡ false)
-  accepted-fits k e =
-      let rest : firstCause (imageCauses L views n (some h) ++ fits) ≡ none =
-      cause-rest (lengths k) (imageCauses L views n (some h) ++ fits) (sym (its-causes k) ∙ e) in
-      let clear = no-cause fits (sym (first-none (imageCauses L views n (some h)) fits image-passes) ∙ rest) in
-      (clear .0, clear .1 .0)
+    -- It is accepted exactly if both lengths are right and neither 29 nor 30 holds.
+    pub image-accepted : (k : ℕ) → geometryBad n s (length area) ≡ false → geometryBad n s k ≡ false
+        → slotTooLong (otherLayout L) views (logSlots h) s n ≡ false → slotTooWide (otherLayout L) views (logSlots h) n ≡ false
+        → firstCause (convertCauses n s area k) ≡ none
+    image-accepted k g j short narrow =
+        its-causes k ∙
+        cause-none (lengths k) (image ++ fits) (either-false _ _ g j)
+        (first-none (image) fits image-passes ∙ causes-none fits (short, (narrow, tt)))
+
+    pub accepted-fits : (k : ℕ) → firstCause (convertCauses n s area k) ≡ none
+        → (slotTooLong (otherLayout L) views (logSlots h) s n ≡ false) × (slotTooWide (otherLayout L) views (logSlots h) n ≡ false)
+    accepted-fits k e =
+        let rest : firstCause (image ++ fits) ≡ none =
+        cause-rest (lengths k) (image ++ fits) (sym (its-causes k) ∙ e) in
+        let clear = no-cause fits (sym (first-none (image) fits image-passes) ∙ rest) in
+        (clear .0, clear .1 .0)
 
 -- ---- an accepted conversion
 
@@ -347,7 +351,7 @@ geometry-long : (n s k j : ℕ) → geometryBad n s k ≡ false → j ≡ n * s 
 geometry-long n s k j e q = ap (geometryBad n s) (q ∙ sym (geometry-size n s k e .1)) ∙ e
 
 module _ (L : Layout) (n s m : ℕ) (source : List ℕ) (bytes : Bytes source) (geometry : geometryBad n s (length source) ≡ false) (h : Head)
-    (f : Sound L (viewsOf source s) n m h) (k : ℕ) (accepted : firstCause (convertCauses n s source k) ≡ none) where
+    (f : Sound L (viewsOf source s) n m h) (one : AllOf L (viewsOf source s) (logSlots h) n) (k : ℕ) (accepted : firstCause (convertCauses n s source k) ≡ none) where
   abbrev K : Layout
   K = otherLayout L
 
@@ -361,10 +365,10 @@ module _ (L : Layout) (n s m : ℕ) (source : List ℕ) (bytes : Bytes source) (
   whole = geometry-size n s (length source) geometry .1
 
   abbrev digest : (i : ℕ) → i < n → logSlots h i ≡ true → Digest
-  digest i l q = own-digest L n s m source bytes whole h f i l q
+  digest i l q = own-digest L n s m source bytes whole h f one i l q
 
   can : (i : ℕ) (l : i < n) (q : logSlots h i ≡ true) → Convertible K s (from i) (digest i l q)
-  can i l q = let fit = accepted-fits L n s m source h f k accepted in fit-convertible L n s m source bytes whole h f K (fit .0) (fit .1) i l q
+  can i l q = let fit = accepted-fits L n s m source h f one k accepted in fit-convertible L n s m source bytes whole h f one K (fit .0) (fit .1) i l q
 
   abbrev made : List ℕ
   made = convertedSlots K from (logSlots h) s n
@@ -375,9 +379,12 @@ module _ (L : Layout) (n s m : ℕ) (source : List ℕ) (bytes : Bytes source) (
   made-sound : Sound K into n m h
   made-sound = target-sound K from n s some-byte h digest can L m f (head-slot L n s m source h f)
 
+  made-one : AllOf K into (logSlots h) n
+  made-one = target-one K from n s some-byte h digest can
+
   made-same : cellsGood m ≡ true → slotsGood n ≡ true → SameStore K n s m source (convertedImage n s source) (recordUnder L from n s m h)
   made-same cells slots =
-      subst (λ (t : List ℕ). SameStore K n s m source t (recordUnder L from n s m h)) (sym (image-converted L n s m source h f))
+      subst (λ (t : List ℕ). SameStore K n s m source t (recordUnder L from n s m h)) (sym (image-converted L n s m source h f one))
       (record {
         rec = recordUnder K into n s m h;
         recovers =
@@ -404,7 +411,7 @@ module _ (L : Layout) (n s m : ℕ) (source : List ℕ) (bytes : Bytes source) (
   -- back again
   back-can : (i : ℕ) (l : i < n) (q : logSlots h i ≡ true) → Convertible L s (into i) (digest i l q)
   back-can i l q =
-      let own = own-again L n s m source bytes whole h f i l q in
+      let own = own-again L n s m source bytes whole h f one i l q in
       let entries : entriesIn (into i) ≡ entriesIn (from i) = target-entries K from n s some-byte h digest can i l q in
       record {
         has-digest = ap (λ (x : View). x .digest) (target-view K from n s some-byte h digest can i l q);
@@ -422,7 +429,7 @@ module _ (L : Layout) (n s m : ℕ) (source : List ℕ) (bytes : Bytes source) (
   again-view i l q =
       target-view L into n s some-byte h digest back-can i l q ∙
       ap (viewIn L (digest i l q)) (target-entries K from n s some-byte h digest can i l q) ∙
-      sym (own-view L n s m source bytes whole h f i l q)
+      sym (own-view L n s m source bytes whole h f one i l q)
 
   again-head : headOf (viewsOf again s) n ≡ some h
   again-head =
@@ -446,12 +453,12 @@ module _ (L : Layout) (n s m : ℕ) (source : List ℕ) (bytes : Bytes source) (
 
   made-back : (j : ℕ) → geometryBad n s j ≡ false → (firstCause (convertCauses n s made j) ≡ none) × SameLog n s source (convertedImage n s made)
   made-back j right = (
-    image-accepted K n s m made h made-sound j
+    image-accepted K n s m made h made-sound made-one j
         (geometry-long n s (length source) (length made) geometry (target-long K from n s some-byte h digest can)) right
         (ap (λ (Y : Layout). slotTooLong Y into (logSlots h) s n) (other-other L) ∙ all-short L into n s some-byte h digest back-can)
         (ap (λ (Y : Layout). slotTooWide Y into (logSlots h) n) (other-other L) ∙ all-narrow L into n s some-byte h digest back-can),
     subst (SameLog n s source)
-        (sym (image-converted K n s m made h made-sound ∙ ap (λ (Y : Layout). convertedSlots Y into (logSlots h) s n) (other-other L)))
+        (sym (image-converted K n s m made h made-sound made-one ∙ ap (λ (Y : Layout). convertedSlots Y into (logSlots h) s n) (other-other L)))
         again-same,
   )
 
@@ -470,31 +477,66 @@ module _ (n s : ℕ) (source target target′ : List ℕ) (p : ConvertPromise n 
   unfolding areaUnless
   converted-leaves = p .leaves ∙ ap (λ (o : Option Refusal). areaUnless o (convertedImage n s source) target) converted-accepted
 
+-- the log of an accepted source is of one edition
+accepted-one : (n s : ℕ) (source : List ℕ) (k : ℕ) → firstCause (convertCauses n s source k) ≡ none
+    → AllOf (imageLayout n s source) (viewsOf source s) (imageSlots n s source) n
+accepted-one n s source k e =
+    let clear = no-cause (convertCauses n s source k) e in
+    editions-one (viewsOf source s) (imageSlots n s source) n (imageLayout n s source) (clear .1 .1 .1 .1 .1 .0)
+
+-- under the head that it is known to have
+one-under : (L : Layout) (n s : ℕ) (source : List ℕ) (h : Head) → imageLayout n s source ≡ L → headOf (viewsOf source s) n ≡ some h
+    → AllOf (imageLayout n s source) (viewsOf source s) (imageSlots n s source) n → AllOf L (viewsOf source s) (logSlots h) n
+unfolding headElse
+one-under L n s source h own head-is one i l q =
+    one i l (ap (λ (o : Option Head). logSlots (headElse o) i) head-is ∙ q) ∙ own
+
 -- an accepted source has a sound image, with an index of one cell more than it has keys
 accepted-sound : (n s : ℕ) (source : List ℕ) (k : ℕ) → firstCause (convertCauses n s source k) ≡ none
-    → (m : ℕ) × (h : Head) × Sound (imageLayout n s source) (viewsOf source s) n m h
+    → (m : ℕ) × (h : Head) × (headOf (viewsOf source s) n ≡ some h) × Sound (imageLayout n s source) (viewsOf source s) n m h
 accepted-sound n s source k e =
-    let found = clear-head (imageLayout n s source) (viewsOf source s) n m (no-cause _ all) in (m, found .0, found .2)
+    let found = clear-head L v n m refl all in (m, found .0, found .1, found .2)
   where
+    L : Layout
+    L = imageLayout n s source
+
+    v : ℕ → View
+    v = viewsOf source s
+
     o : Option Head
-    o = headOf (viewsOf source s) n
+    o = headOf v n
 
     log : List Placed
-    log = logUnder (viewsOf source s) n (headElse o)
+    log = logUnder v n (headElse o)
 
     m : ℕ
     m = suc (length (keysOf log))
 
-    image : List Cause
-    image = imageCauses (imageLayout n s source) (viewsOf source s) n o
+    clear : NoCause (convertCauses n s source k)
+    clear = no-cause (convertCauses n s source k) e
 
-    passed : firstCause image ≡ none
-    passed = none-left image _ (cause-rest _ _ e)
+    -- slots of one edition are of none later than it
+    earlier : laterEdition L v (logSlots (headElse o)) n ≡ false
+    earlier =
+        before-editions v (logSlots (headElse o)) n L (λ i l q. ap (λ (K : Layout). later K L) (accepted-one n s source k e i l q) ∙ later-same L)
 
-    all : firstCause (image ++ keyCauses (viewsOf source s) n m o) ≡ none
-    all =
-        first-none image (keyCauses (viewsOf source s) n m o) passed ∙
-        causes-none (keyCauses (viewsOf source s) n m o) (le-ltb (m - 1) (length (keysOf log)) (omega arith), tt)
+    all : NoCause (imageCauses L v n o ++ keyCauses v n m o)
+    all = (
+      clear .1 .0,
+      (
+        clear .1 .1 .0,
+        (
+          clear .1 .1 .1 .0,
+          (
+            clear .1 .1 .1 .1 .0,
+            (
+              earlier,
+              (clear .1 .1 .1 .1 .1 .1 .0, (clear .1 .1 .1 .1 .1 .1 .1 .0, (le-ltb (m - 1) (length (keysOf log)) (omega arith), tt))),
+            ),
+          ),
+        ),
+      ),
+    )
 
 -- Where the conversion is accepted, the target recovers with every index with which the source does, to the same map and next version.
 pub conversion-same :
@@ -504,8 +546,24 @@ conversion-same L n s m source target target′ bytes p r e =
     let f = recovered-facts L n s m source r e in
     subst (λ (t : List ℕ). SameStore (otherLayout L) n s m source t r) (sym (converted-leaves n s source target target′ p))
     (subst (SameStore (otherLayout L) n s m source (convertedImage n s source)) (sym (f .same))
-    (made-same L n s m source bytes (lent-clear n s m (length source) (f .lent) .0) (f .head) (f .sound) (length target)
+    (made-same L n s m source bytes (lent-clear n s m (length source) (f .lent) .0) (f .head) (f .sound)
+    (one-under L n s source (f .head) (recovered-image L n s m source r e) (f .head-is)
+    (accepted-one n s source (length target) (converted-accepted n s source target target′ p))) (length target)
     (converted-accepted n s source target target′ p) (f .lent .cells-good) (f .lent .slots-good)))
+
+-- and every slot of its log is of the other layout
+pub conversion-slots :
+    (L : Layout) (n s m : ℕ) (source target target′ : List ℕ) → Bytes source → ConvertPromise n s source target target′ ConvertAnswer.Converted →
+    (r : Record) → recovered L n s m source ≡ some r → (i : ℕ) → i < n → named (r .map) i ≡ true → viewsOf target′ s i .layout ≡ otherLayout L
+conversion-slots L n s m source target target′ bytes p r e i l q =
+    let f = recovered-facts L n s m source r e in
+    let one =
+    one-under L n s source (f .head) (recovered-image L n s m source r e) (f .head-is)
+    (accepted-one n s source (length target) (converted-accepted n s source target target′ p)) in
+    ap (λ (t : List ℕ). viewsOf t s i .layout)
+    (converted-leaves n s source target target′ p ∙ image-converted L n s m source (f .head) (f .sound) one) ∙
+    made-one L n s m source bytes (lent-clear n s m (length source) (f .lent) .0) (f .head) (f .sound) one (length target)
+    (converted-accepted n s source target target′ p) i l (ap (λ (x : Record). named (x .map) i) (sym (f .same)) ∙ q)
 
 -- Converted back, which is always accepted, it has the log that it had: up and down again, and down and up again.
 pub conversion-back :
@@ -515,14 +573,15 @@ pub conversion-back :
 unfolding convertAnswer areaUnless
 conversion-back n s source target target′ back back′ a bytes p same-length q =
     let e = converted-accepted n s source target target′ p in
-    let (m, h, f) = accepted-sound n s source (length target) e in
+    let (m, h, head-is, f) = accepted-sound n s source (length target) e in
+    let one = one-under (imageLayout n s source) n s source h refl head-is (accepted-one n s source (length target) e) in
     let right = cause-false _ _ e in
     let geometry = either-false-left (geometryBad n s (length source)) (geometryBad n s (length target)) right in
     let length-right = either-false-right (geometryBad n s (length source)) (geometryBad n s (length target)) right in
     let made-is : target′ ≡ convertedSlots (otherLayout (imageLayout n s source)) (viewsOf source s) (logSlots h) s n =
-    converted-leaves n s source target target′ p ∙ image-converted (imageLayout n s source) n s m source h f in
+    converted-leaves n s source target target′ p ∙ image-converted (imageLayout n s source) n s m source h f one in
     let both =
-    made-back (imageLayout n s source) n s m source bytes geometry h f (length target) e (length back) (ap (geometryBad n s) same-length ∙ length-right) in
+    made-back (imageLayout n s source) n s m source bytes geometry h f one (length target) e (length back) (ap (geometryBad n s) same-length ∙ length-right) in
     let none-met : firstCause (convertCauses n s target′ (length back)) ≡ none =
     ap (λ (t : List ℕ). firstCause (convertCauses n s t (length back))) made-is ∙ both .0 in
     let left : back′ ≡ convertedImage n s target′ =

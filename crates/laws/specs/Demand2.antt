@@ -8,6 +8,7 @@ use Rattle.segment.specs.Choice.{pick}
 use Rattle.segment.specs.Layout.{Layout}
 use Rattle.segment.specs.Entry.{Entry}
 use Rattle.segment.specs.declared.Key.{Key}
+use Rattle.record.specs.Switch.{unswitched}
 use Rattle.record.specs.declared.Record.{Record}
 use Rattle.model.specs.Log.{sameKey}
 use Rattle.model.specs.Recovery.{recovered}
@@ -16,10 +17,10 @@ use Rattle.laws.specs.MapLaws.{valueAt}
 use Rattle.laws.specs.Operated.{Accepted, planAt, mapAfter}
 use Rattle.laws.specs.OperationsKept.{finishes, deleted-next, edition-roomy}
 
--- Bytes that read as a map: recovery of them gives this record, whose slot map is that of the newest digest, and in the segments
--- that it names the highest version of each key decides what the map holds of it.
-pub record ReadsAs (L : Layout) (n s m : ℕ) (area : List ℕ) (r : Record) (map : Key → Option Entry) : Type 0 where
-  pub recovers : recovered L n s m area ≡ some r
+-- Bytes that read as a map: recovery of them gives this record, the switch aside, whose slot map is that of the newest digest, and in the
+-- segments that it names the highest version of each key decides what the map holds of it.
+pub record ReadsAs (n s m : ℕ) (area : List ℕ) (r : Record) (map : Key → Option Entry) : Type 0 where
+  pub recovers : recovered (r .edition) n s m area ≡ some (unswitched r)
   pub decides : (j : Key) → valueAt (logNow area r) j ≡ map j
 
 module _ (L : Layout) (before : List ℕ) (idle : Record) where
@@ -30,10 +31,10 @@ module _ (L : Layout) (before : List ℕ) (idle : Record) where
   -- what is read after its last store
   abbrev pub Finished : Operation → (Key → Option Entry) → Type 0
   Finished o map =
-      ReadsAs L (idle .slots) (idle .size) (idle .cells) (stored before (planAt L before idle o)) (finishedRecord L before idle o) map
+      ReadsAs (idle .slots) (idle .size) (idle .cells) (stored before (planAt L before idle o)) (finishedRecord L before idle o) map
 
   read-after : (o : Operation) → Accepted L before idle o → Finished o (mapAfter idle o old)
-  read-after o a = let f = finishes L (edition-roomy L) before idle o a in record { recovers = f .0; decides = f .1 }
+  read-after o a = let f = finishes L edition-roomy before idle o a in record { recovers = f .0; decides = f .1 }
 
   -- a write sets its key to that value at the next version, and no other
   pub demand-2-write :

@@ -2,26 +2,29 @@
 -- the head or a new one.
 use Prim.Native.Nat.{ℕ, _+_, _-_, _≤_, _<_}
 use native.Mathlib.Omega.{arith}
-use mathlib.Core.Path.{_≡_, refl, ap}
+use mathlib.Core.Path.{_≡_, refl, ap, _∙_, subst}
 use mathlib.Core.Bool.{Bool, true, false, not}
 use mathlib.Core.List.{List}
 use mathlib.Core.Option.{Option, none, some}
 use lib.Dec.{eqb, ltb}
 use lib.ListN.{length}
-use borrow.Author.Tests.{eqb-false, ltb-false}
-use Rattle.segment.specs.Choice.{pick, both, isNone}
+use borrow.Author.Tests.{eqb-false, ltb-false, ltb-true}
+use Rattle.segment.specs.Choice.{pick, both, both-right, isNone}
 use Rattle.segment.specs.Layout.{Layout, valueLength, entrySize, digestSize, versionLimit, numberLimit, table}
-use Rattle.segment.specs.LayoutLaws.{version-good}
+use Rattle.segment.specs.LayoutLaws.{version-good, known-either}
 use Rattle.segment.specs.Entry.{Entry, bytesIn, lengthKnown, WellFormed}
 use Rattle.segment.specs.declared.Key.{Key}
 use Rattle.slot_map.specs.Count.{used}
-use Rattle.record.specs.RangeLaws.{Lent, lent}
+use Rattle.record.specs.RangeLaws.{Lent, lent-switched}
+use Rattle.record.specs.Switch.{newLayout, unswitched}
 use Rattle.record.specs.declared.Record.{Record}
 use Rattle.model.specs.Log.{Placed, hasKey, present, latest, objectOnly}
 use Rattle.model.specs.Operations.{Operation, write, delete, logNow, writtenEntry, tombstoneEntry, fitsHead, noRoom, countNew}
-use Rattle.model.specs.Refused.{freely, keyFacts, startCauses}
+use Rattle.model.specs.Refused.{freely, keyFacts, versionsSpent, keptTooLong, forgetLength, startCauses}
+use Rattle.model.specs.Recovery.{later}
+use Rattle.laws.specs.Editions.{new-later, later-limit}
 use Rattle.laws.specs.Latest.{latest-has}
-use Rattle.laws.specs.RecoverLaws.{recovered-holds, recovered-next, recovered-number}
+use Rattle.laws.specs.RecoverLaws.{recovered-holds, recovered-next, recovered-number, recovered-edition}
 use Rattle.laws.specs.Appended.{Takes}
 use Rattle.laws.specs.Operated.{Accepted}
 use Rattle.laws.specs.Passed.{WritePassed, write-passed, DeletePassed, delete-passed}
@@ -32,9 +35,10 @@ pub record Roomy (L : Layout) : Type 0 where
   pub wide : 0 < table L .width
   pub room : (k n : ℕ) → valueLength L k ≡ some n → digestSize L + entrySize L n ≤ 256
 
--- What is known of the entry of an accepted write or delete.
+-- What is known of the entry of an accepted write or delete: it can stand in a new head, and in the head where it fits.
 pub record Entering (L : Layout) (before : List ℕ) (idle : Record) (e : Entry) : Type 0 where
-  pub formed : WellFormed L e
+  pub formed : fitsHead L idle e ≡ true → WellFormed L e
+  pub formed-new : WellFormed (newLayout idle) e
   pub takes : Takes (idle .next .0) (idle .keys) (idle .cells) (logNow before idle) e
   pub two-free : fitsHead L idle e ≡ false → used (idle .slots) (idle .map) + 2 ≤ idle .slots
   pub number-left : fitsHead L idle e ≡ false → idle .digest .0 < numberLimit
@@ -43,13 +47,24 @@ pub record Entering (L : Layout) (before : List ℕ) (idle : Record) (e : Entry)
 
 module _ (L : Layout) (before : List ℕ) (idle : Record) (o : Operation) (a : Accepted L before idle o) where
   pub idle-lent : Lent L idle (length before) (idle .cells)
-  idle-lent = recovered-holds L (idle .slots) (idle .size) (idle .cells) before idle (a .recovers)
+  idle-lent = lent-switched idle (recovered-holds L (idle .slots) (idle .size) (idle .cells) before (unswitched idle) (a .recovers))
 
   pub idle-next : idle .next .0 ≤ versionLimit L
-  idle-next = recovered-next L (idle .slots) (idle .size) (idle .cells) before idle (a .recovers) (a .area-bytes)
+  idle-next = recovered-next L (idle .slots) (idle .size) (idle .cells) before (unswitched idle) (a .recovers) (a .area-bytes)
 
   pub idle-number : idle .digest .0 ≤ numberLimit
-  idle-number = recovered-number L (idle .slots) (idle .size) (idle .cells) before idle (a .recovers) (a .area-bytes)
+  idle-number = recovered-number L (idle .slots) (idle .size) (idle .cells) before (unswitched idle) (a .recovers) (a .area-bytes)
+
+  pub idle-edition : idle .edition ≡ L
+  idle-edition = recovered-edition L (idle .slots) (idle .size) (idle .cells) before (unswitched idle) (a .recovers)
+
+  -- a new head is of no earlier edition
+  pub idle-up : later L (newLayout idle) ≡ false
+  idle-up = subst (λ (K : Layout). later K (newLayout idle) ≡ false) idle-edition (new-later idle)
+
+  next-left : versionsSpent idle ≡ false → idle .next .0 < versionLimit (newLayout idle)
+  next-left t =
+      omega (arith, idle-next, later-limit L (newLayout idle) idle-up, eqb-false (idle .next .0) (versionLimit (newLayout idle)) t)
 
 -- ---- tests taken apart
 
@@ -96,14 +111,8 @@ module _ (L : Layout) (before : List ℕ) (idle : Record) (k : Key) where
   unfolding startCauses countNew lengthKnown bytesIn
   write-enters value a =
       record {
-        formed =
-            record {
-              length-known = ap not (tests .value-known);
-              table-fits = a .typed .0 .0;
-              key-fits = a .typed .0 .1;
-              version-good = version-good L (idle .next .0) (facts .next-some) (omega (arith, idle-next L before idle (write k value) a, eqb-false (idle .next .0) (versionLimit L) (tests .versions-left)));
-              value-bytes = a .typed .1;
-            };
+        formed = λ fits. formed-in L (ltb-true (idle .next .0) (versionLimit L) (both-right _ _ fits));
+        formed-new = formed-in (newLayout idle) (next-left L before idle (write k value) a (tests .versions-left));
         takes = record { version = refl; room = new-room (hasKey log k) (idle .keys) (idle .cells) (facts .keys-high) (tests .key-fits) };
         two-free = λ f. free-two (idle .slots) (used (idle .slots) (idle .map)) (omega (arith, facts .some-free)) (both-true-false _ _ (tests .room) (not-true-of _ f));
         number-left = λ f. number-below (idle .digest .0) (idle-number L before idle (write k value) a) (both-true-false _ _ (tests .number-left) (not-true-of _ f));
@@ -115,17 +124,27 @@ module _ (L : Layout) (before : List ℕ) (idle : Record) (k : Key) where
       facts : Lent L idle (length before) (idle .cells)
       facts = idle-lent L before idle (write k value) a
 
+      formed-in : (K : Layout) → idle .next .0 < versionLimit K → WellFormed K (writtenEntry idle k value)
+      formed-in K left =
+          record {
+            length-known = ap not (known-either K L (length value) ∙ tests .value-known);
+            table-fits = a .typed .0 .0;
+            key-fits = a .typed .0 .1;
+            version-good = version-good K (idle .next .0) (facts .next-some) left;
+            value-bytes = a .typed .1;
+          }
+
   -- the tombstone of an accepted delete
   module _ (a : Accepted L before idle (delete k)) where
-    tests : DeletePassed L idle (a .lengths) freely k (keyFacts log k)
+    tests : DeletePassed L idle (a .lengths) freely k (keyFacts log k) (forgetLength (newLayout idle) idle log k)
     unfolding startCauses
-    tests = delete-passed L idle (a .lengths) freely k (keyFacts log k) (a .no-cause)
+    tests = delete-passed L idle (a .lengths) freely k (keyFacts log k) (forgetLength (newLayout idle) idle log k) (a .no-cause)
 
     facts : Lent L idle (length before) (idle .cells)
     facts = idle-lent L before idle (delete k) a
 
-    pub delete-next : idle .next .0 < versionLimit L
-    delete-next = omega (arith, idle-next L before idle (delete k) a, eqb-false (idle .next .0) (versionLimit L) (tests .versions-left))
+    pub delete-next : idle .next .0 < versionLimit (newLayout idle)
+    delete-next = next-left L before idle (delete k) a (tests .versions-left)
 
     pub delete-number : fitsHead L idle (tombstoneEntry idle k) ≡ false → idle .digest .0 < numberLimit
     unfolding bytesIn
@@ -133,27 +152,35 @@ module _ (L : Layout) (before : List ℕ) (idle : Record) (k : Key) where
         number-below (idle .digest .0) (idle-number L before idle (delete k) a)
         (both-true-false _ _ (tests .number-left) (not-true-of _ f))
 
-    pub delete-formed : WellFormed L (tombstoneEntry idle k)
+    formed-in : (K : Layout) → idle .next .0 < versionLimit K → WellFormed K (tombstoneEntry idle k)
     unfolding lengthKnown bytesIn
-    delete-formed =
+    formed-in K left =
         record {
           length-known = refl;
           table-fits = a .typed .0;
           key-fits = a .typed .1;
-          version-good = version-good L (idle .next .0) (facts .next-some) delete-next;
+          version-good = version-good K (idle .next .0) (facts .next-some) left;
           value-bytes = λ i. omega arith;
         }
+
+    pub delete-formed : WellFormed (newLayout idle) (tombstoneEntry idle k)
+    delete-formed = formed-in (newLayout idle) delete-next
+
+    -- what its victim keeps fits a new head, where it finds no room
+    pub delete-room : noRoom L idle (entrySize L 0) ≡ true → keptTooLong idle (forgetLength (newLayout idle) idle log k) ≡ false
+    delete-room full = both-true-false _ _ (tests .room) full
 
     -- the object that it is to delete
     pub delete-live : (x : Placed) × present log k ≡ some x
     delete-live = some-of (present log k) (tests .present)
 
     -- where it finds room
-    pub delete-enters : noRoom idle (entrySize L 0) ≡ false → Entering L before idle (tombstoneEntry idle k)
+    pub delete-enters : noRoom L idle (entrySize L 0) ≡ false → Entering L before idle (tombstoneEntry idle k)
     unfolding countNew bytesIn
     delete-enters room =
         record {
-          formed = delete-formed;
+          formed = λ fits. formed-in L (ltb-true (idle .next .0) (versionLimit L) (both-right _ _ fits));
+          formed-new = delete-formed;
           takes =
               record {
                 version = refl;

@@ -20,9 +20,10 @@ use Rattle.slot_map.specs.CountLaws.{used-free}
 use Rattle.record.specs.Range.{slotsGood, sizeGood, cellsGood}
 use Rattle.record.specs.RangeLaws.{between-low}
 use Rattle.model.specs.Log.{View, Head, Placed, scanned, viewsOf, headOf, placedIn, isDamaged, keysOf, versionShared, highest, nextVersion}
-use Rattle.model.specs.Recovery.{recovered, recordFrom, recordUnder, headElse, geometryBad, logSlots, logUnder}
+use Rattle.model.specs.Recovery.{later, recovered, recordFrom, recordUnder, headElse, geometryBad, logSlots, logUnder}
 use Rattle.model.specs.Operations.{logNow, firstDigest, formatted}
 use Rattle.laws.specs.Members.{clash}
+use Rattle.laws.specs.Editions.{later-same}
 use Rattle.laws.specs.FormatBytes.{length-formatted, formatted-other, formatted-head}
 use Rattle.laws.specs.LogLaws.{no-parts, partOf, part-picked, part-passed, items-scanned, scanned-undamaged}
 use Rattle.laws.specs.RecoverLaws.{Sound, in-map, sound-head, sound-recovered}
@@ -66,7 +67,8 @@ module _ (L : Layout) (v : ℕ → View) (n e : ℕ) (some-slots : 4 ≤ n) (own
           numbered = λ z. omega arith;
           map-good = in-map n 0 1 (omega (arith, pow-mono {i = 1} some-slots′)) refl (used-free n 1 1 (omega arith) refl);
           digests = λ i l q. at-zero i q (firstDigest, ap (λ (w : View). w .digest) own);
-          editions = λ i l q. first-edition i (ℕ-discrete i 0) q;
+          own = ap (λ (w : View). w .layout) own;
+          editions = λ i l q. ap (λ (K : Layout). later K L) (first-edition i (ℕ-discrete i 0) q) ∙ later-same L;
           next-set = λ z. omega arith;
           scans = λ i l q. undamaged i (ℕ-discrete i 0) q;
           versions = ap versionShared fresh-log;
@@ -148,3 +150,15 @@ module _ (L : Layout) (roomy : Roomy L) (n s : ℕ) (area : List ℕ) (geometry 
     ap (λ (o : Option Head). nextVersion (headElse o .digest) (logUnder views n (headElse o))) head-is ∙
         ap (λ (l : List Placed). nextVersion firstDigest l) (fresh-log L views n (digestSize L) some-slots own others),
   )
+
+  -- the one slot of its log is of the layout
+  pub format-slots : (i : ℕ) → i < n → named (recordFrom L n s 16 (formatted L n s area) .map) i ≡ true → viewsOf (formatted L n s area) s i .layout ≡ L
+  unfolding headElse
+  format-slots i l q = go (ℕ-discrete i 0)
+    where
+      first : named 1 i ≡ true
+      first = ap (λ (o : Option Head). named (headElse o .digest .map) i) (sym head-is) ∙ q
+
+      go : Dec (i ≡ 0) → viewsOf (formatted L n s area) s i .layout ≡ L
+      go (yes o) = ap (λ (k : ℕ). views k .layout) o ∙ ap (λ (w : View). w .layout) own
+      go (no o) = absurd (clash (named 1 i) first (others-unnamed i o))

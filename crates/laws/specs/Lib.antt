@@ -1,5 +1,6 @@
 -- Theorems about the definitions of the crate model; no code is in sight here.
 pub mod CauseLaws
+pub mod Editions
 pub mod Passed
 pub mod Starts
 pub mod SaidLaws

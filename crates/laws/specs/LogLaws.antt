@@ -17,7 +17,7 @@ use Rattle.model.specs.Operations.{countNew}
 use borrow.Author.Tests.{not-false}
 use Rattle.segment.specs.Layout.{Layout, sameLayout}
 use Rattle.segment.specs.LayoutLaws.{same-layout, layout-same}
-use Rattle.model.specs.Recovery.{namesNoDigest, logDamaged, otherEdition}
+use Rattle.model.specs.Recovery.{later, laterEdition, namesNoDigest, logDamaged, otherEdition}
 use Rattle.laws.specs.Members.{In, Within, Same, Added, added-between, those, total}
 use Rattle.laws.specs.Versions.{count, count-append, shared-fewer, shared-append, below-highest, highest-added}
 use Rattle.laws.specs.Keys.{keys-added}
@@ -59,9 +59,18 @@ unfolding otherEdition anyBelow
 other-any L v p zero = refl
 other-any L v p (suc n) = cc (other-any L v p n)
 
+later-any : (L : Layout) (v : ℕ → View) (p : ℕ → Bool) (n : ℕ) → laterEdition L v p n ≡ anyBelow (λ i. both (p i) (later (v i .layout) L)) n
+unfolding laterEdition anyBelow
+later-any L v p zero = refl
+later-any L v p (suc n) = cc (later-any L v p n)
+
 -- ---- what the tests of every slot say
 
--- Every slot that p picks has a digest, is of the store's edition, and its entries can all be read.
+-- Every slot that p picks has a digest, is of the store's edition or, but for the conversion of images, of no later one, and its entries can
+-- all be read.
+abbrev pub NoneLater : Layout → (ℕ → View) → (ℕ → Bool) → ℕ → Type 0
+NoneLater L v p n = (i : ℕ) → i < n → p i ≡ true → later (v i .layout) L ≡ false
+
 abbrev pub AllOf : Layout → (ℕ → View) → (ℕ → Bool) → ℕ → Type 0
 AllOf L v p n = (i : ℕ) → i < n → p i ≡ true → v i .layout ≡ L
 
@@ -114,6 +123,14 @@ module _ (v : ℕ → View) (p : ℕ → Bool) (n : ℕ) where
       other-any L v p n ∙
       none-below n (λ k. both (p k) (not (sameLayout (v k .layout) L)))
       (λ i l. both-of-true (p i) (not (sameLayout (v i .layout) L)) (λ q. ap (λ (K : Layout). not (sameLayout K L)) (f i l q) ∙ ap not (layout-same L)))
+
+  pub editions-before : (L : Layout) → laterEdition L v p n ≡ false → NoneLater L v p n
+  editions-before L e i l q =
+      both-true-false (p i) (later (v i .layout) L) (below-none n (λ k. both (p k) (later (v k .layout) L)) (sym (later-any L v p n) ∙ e) i l) q
+
+  pub before-editions : (L : Layout) → NoneLater L v p n → laterEdition L v p n ≡ false
+  before-editions L f =
+      later-any L v p n ∙ none-below n (λ k. both (p k) (later (v k .layout) L)) (λ i l. both-of-true (p i) (later (v i .layout) L) (f i l))
 
   pub undamaged-scans : logDamaged v p n ≡ false → AllScanned v p n
   undamaged-scans e i l q =

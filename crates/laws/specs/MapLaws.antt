@@ -135,7 +135,7 @@ kept-those victims log (x ∷ xs) = go (isKept victims log x) (kept-those victim
     go false ih = unfold pick in ih
 
 -- an object of the key outside the victims is seen
-object-seen : (victims : ℕ) (k : Key) {log : List Placed} {x : Placed} → In x log → named victims (x .slot) ≡ false →
+pub object-seen : (victims : ℕ) (k : Key) {log : List Placed} {x : Placed} → In x log → named victims (x .slot) ≡ false →
     sameKey k (x .entry) ≡ true → isTombstone (x .entry) ≡ false → objectOutside victims log k ≡ true
 unfolding objectOutside
 object-seen victims k {x = x} (List·Memᴰ·head {x = y} {xs = ys} e) p q r =
@@ -170,17 +170,17 @@ highest-newest log x d m e = go (latest log (keyOf (x .entry))) (latest-is log (
         rw same at n
 
 -- the test on what a highest version is: an object, or a tombstone whose key has an object outside the victims
-abbrev worth : ℕ → List Placed → Placed → Bool
+abbrev pub worth : ℕ → List Placed → Placed → Bool
 worth victims log x = either (not (isTombstone (x .entry))) (objectOutside victims log (keyOf (x .entry)))
 
 -- the test whether a member is kept, by its three parts
 module _ (victims : ℕ) (log : List Placed) (x : Placed) where
-  kept-when : named victims (x .slot) ≡ true → isHighest log (x .entry) ≡ true → worth victims log x ≡ true → isKept victims log x ≡ true
+  pub kept-when : named victims (x .slot) ≡ true → isHighest log (x .entry) ≡ true → worth victims log x ≡ true → isKept victims log x ≡ true
   kept-when p q r =
       both-true (named victims (x .slot)) (both (isHighest log (x .entry)) (worth victims log x)) p
       (both-true (isHighest log (x .entry)) (worth victims log x) q r)
 
-  kept-victim : isKept victims log x ≡ true → named victims (x .slot) ≡ true
+  pub kept-victim : isKept victims log x ≡ true → named victims (x .slot) ≡ true
   kept-victim e = both-left (named victims (x .slot)) (both (isHighest log (x .entry)) (worth victims log x)) e
 
   pub kept-highest : isKept victims log x ≡ true → isHighest log (x .entry) ≡ true

@@ -1,4 +1,4 @@
--- All the laws that the promise about cuts needs, for every layout of which each entry fits a fresh segment.
+-- All the laws that the promise about cuts needs, for every layout.
 use Prim.Native.Nat.{ℕ, _+_, _-_, _*_, _≤_, _<_}
 use native.Mathlib.Omega.{arith}
 use mathlib.Core.Path.{_≡_, refl, sym, ap, _∙_, subst}
@@ -19,16 +19,18 @@ use Rattle.segment.specs.EntryLaws.{Readable, found-readable, found-bytes}
 use Rattle.segment.specs.declared.Key.{Key}
 use Rattle.segment.specs.declared.Version.{Version}
 use Rattle.slot_map.specs.Bit.{named}
-use Rattle.record.specs.RangeLaws.{Lent}
+use Rattle.slot_map.specs.NextLaws.{next-clear}
+use Rattle.record.specs.RangeLaws.{Lent, lent-switched}
+use Rattle.record.specs.Switch.{newLayout, unswitched}
 use Rattle.record.specs.declared.Record.{Record}
 use Rattle.model.specs.Log.{View, Placed, placeOf, scan, scanned, segmentOf, viewsOf, present, latest, objectOnly, sameKey}
 use Rattle.model.specs.Recovery.{recovered, recordFrom}
-use Rattle.model.specs.Operations.{Operation, write, delete, clean, logNow, writtenEntry, tombstoneEntry, fitsHead, noRoom, newSlot, digestWith, kept, allEncoded, placedFrom, Laid, laidEntry, laidForget, laid, planOf, stored, appendedRecord, headedRecord, entryRecord, renewedRecord, forgottenRecord, finishedRecord}
+use Rattle.model.specs.Operations.{Operation, write, delete, clean, logNow, writtenEntry, tombstoneEntry, fitsHead, noRoom, newSlot, digestWith, newDigest, kept, allEncoded, placedFrom, Laid, laidEntry, laidForget, laidDelete, laid, planOf, stored, appendedRecord, headedRecord, entryRecord, renewedRecord, forgottenRecord, deletedRecord, finishedRecord}
 use Rattle.model.specs.Promises.{partOf, valuePart}
 use Rattle.laws.specs.Members.{In}
 use Rattle.laws.specs.Latest.{latest-some}
 use Rattle.laws.specs.Versions.{shared-apart}
-use Rattle.laws.specs.MapLaws.{valueAt, gives, log-clean}
+use Rattle.laws.specs.MapLaws.{valueAt, gives, Cleaned, log-clean}
 use Rattle.laws.specs.Stores.{length-stored, slot-inside, length-segment}
 use Rattle.laws.specs.Scans.{itemsFrom}
 use Rattle.laws.specs.NewHeadBytes.{headPlan, new-head-other, new-head-view}
@@ -36,63 +38,81 @@ use Rattle.laws.specs.FormatBytes.{bytes-formatted}
 use Rattle.laws.specs.Fresh.{format-recovers, format-log}
 use Rattle.laws.specs.LogLaws.{log-in}
 use Rattle.laws.specs.RecoverLaws.{recovered-case, recovered-fits, recovered-holds, recovered-above, recovered-more, placed-found}
-use Rattle.laws.specs.Headed.{Heads}
+use Rattle.laws.specs.Headed.{Heads, SlotOrigin, heads-slots}
 use Rattle.laws.specs.Cleaned.{cleaned-cleaned, cleaned-recovered}
 use Rattle.laws.specs.Operated.{Accepted, planAt, mapAfter, OperationLaws}
 use Rattle.laws.specs.Entering.{Roomy, write-enters, delete-enters}
-use Rattle.laws.specs.Planned.{planned, new-below, new-map-fits, prefix-stays, prefix-bytes, plan-stores, plan-most, plan-fits}
-use Rattle.laws.specs.EntryDone.{entry-done}
+use Rattle.laws.specs.Planned.{planned, new-below, new-map-fits, prefix-stays, prefix-layout, prefix-bytes, plan-stores, plan-most, plan-fits}
+use Rattle.laws.specs.EntryDone.{entry-done, entry-slots}
 use Rattle.laws.specs.Cleanings.{Cleaning, clean-cleans, forget-value, forget-cleans}
 
 -- ---- a finished cleaning, also one that deletes
 
-module _ (L : Layout) (before : List ℕ) (idle : Record) (victims : ℕ) (next : Version) (stand : List Placed)
-    (c : Cleaning L before idle victims next stand) where
+module _ (L W : Layout) (before : List ℕ) (idle : Record) (victims : ℕ) (next : Version) (stand : List Placed)
+    (c : Cleaning L W before idle victims next stand) where
   facts : Lent L idle (length before) (idle .cells)
-  facts = recovered-holds L (idle .slots) (idle .size) (idle .cells) before idle (c .recovers)
+  facts = lent-switched idle (recovered-holds L (idle .slots) (idle .size) (idle .cells) before (unswitched idle) (c .recovers))
 
   abbrev clean-plan : List (ℕ × ℕ)
-  clean-plan = headPlan L (idle .size) (newSlot idle) (digestWith idle victims next) (kept victims stand)
+  clean-plan = headPlan W (idle .size) (newSlot idle) (digestWith idle victims next) (kept victims stand)
 
   views :
-      Heads L (viewsOf before (idle .size)) (viewsOf (stored before clean-plan) (idle .size)) (idle .slots) (newSlot idle)
+      Heads W (viewsOf before (idle .size)) (viewsOf (stored before clean-plan) (idle .size)) (idle .slots) (newSlot idle)
       (digestWith idle victims next) (kept victims stand)
   views =
       record {
         others =
             λ i l o.
-            new-head-other L (idle .size) (newSlot idle) before (digestWith idle victims next) (kept victims stand) (c .room) i o;
+            new-head-other W (idle .size) (newSlot idle) before (digestWith idle victims next) (kept victims stand) (c .room) i o;
         own =
-            new-head-view L (digestWith idle victims next) (kept victims stand) (c .number-left)
+            new-head-view W (digestWith idle victims next) (kept victims stand) (c .number-left)
             (new-map-fits L before idle (c .recovers) victims (c .sub)) (c .next-fits) (c .formed)
             (idle .slots) (idle .size) (newSlot idle) before (facts .area-own) (new-below L before idle (c .recovers)) (c .room);
       }
 
   -- the new head holds what is kept
-  pub clean-layout : layoutIn (segmentOf (stored before clean-plan) (idle .size) (newSlot idle)) ≡ L
+  pub clean-layout : layoutIn (segmentOf (stored before clean-plan) (idle .size) (newSlot idle)) ≡ W
   clean-layout = ap (λ (w : View). w .layout) (views .own)
 
   pub clean-scan :
-      scan L (segmentOf (stored before clean-plan) (idle .size) (newSlot idle)) ≡
-      scanned (itemsFrom L (digestSize L) (kept victims stand)) (digestSize L + length (allEncoded L (kept victims stand)))
+      scan W (segmentOf (stored before clean-plan) (idle .size) (newSlot idle)) ≡
+      scanned (itemsFrom W (digestSize W) (kept victims stand)) (digestSize W + length (allEncoded W (kept victims stand)))
   clean-scan =
       ap (λ (K : Layout). scan K (segmentOf (stored before clean-plan) (idle .size) (newSlot idle))) (sym (ap (λ (w : View). w .layout) (views .own)))
       ∙ ap (λ (w : View). w .scan) (views .own)
 
+  -- What stood outside the victims, and what was kept, in its new place; a slot that is no new head's is as it was.
+  pub clean-cleaned :
+      Cleaned victims stand (placedFrom W (newSlot idle) (digestSize W) (kept victims stand))
+      (logNow (stored before clean-plan) (renewedRecord W before idle victims (kept victims stand) next))
+  clean-cleaned =
+      cleaned-cleaned L W (c .up) (idle .slots) (idle .size) (idle .cells) before (stored before clean-plan) (unswitched idle) victims next stand
+      (c .recovers) (c .sub) (c .stands) views
+
+  pub clean-others : (i : ℕ) → i < idle .slots → (i ≡ newSlot idle → ⊥) → viewsOf (stored before clean-plan) (idle .size) i ≡ viewsOf before (idle .size) i
+  clean-others = views .others
+
   -- Recovery gives the record of 01's formulas, and the map is that of the log by which the cleaning went.
   pub clean-done :
-      (recovered L (idle .slots) (idle .size) (idle .cells) (stored before clean-plan) ≡
-      some (renewedRecord L before idle victims (kept victims stand) next))
+      (recovered W (idle .slots) (idle .size) (idle .cells) (stored before clean-plan) ≡
+      some (unswitched (renewedRecord W before idle victims (kept victims stand) next)))
       × ((j : Key) →
-      valueAt (logNow (stored before clean-plan) (renewedRecord L before idle victims (kept victims stand) next)) j ≡ valueAt stand j)
+      valueAt (logNow (stored before clean-plan) (renewedRecord W before idle victims (kept victims stand) next)) j ≡ valueAt stand j)
   clean-done = (
-    cleaned-recovered L (idle .slots) (idle .size) (idle .cells) before (stored before clean-plan) idle victims next stand (c .recovers)
+    cleaned-recovered L W (c .up) (idle .slots) (idle .size) (idle .cells) before (stored before clean-plan) (unswitched idle) victims next stand (c .recovers)
         (c .sub) (c .stands) views (length-stored before clean-plan) (c .some-victim),
-    log-clean victims stand (placedFrom L (newSlot idle) (digestSize L) (kept victims stand))
-        (logNow (stored before clean-plan) (renewedRecord L before idle victims (kept victims stand) next))
-        (cleaned-cleaned L (idle .slots) (idle .size) (idle .cells) before (stored before clean-plan) idle victims next stand (c .recovers)
-        (c .sub) (c .stands) views) (shared-apart stand (c .stands .versions)),
+    log-clean victims stand (placedFrom W (newSlot idle) (digestSize W) (kept victims stand))
+        (logNow (stored before clean-plan) (renewedRecord W before idle victims (kept victims stand) next))
+        clean-cleaned (shared-apart stand (c .stands .versions)),
   )
+
+  -- Each log slot then is of the new head's edition, or is one of before as it was.
+  pub clean-slots :
+      (i : ℕ) → i < idle .slots → named (newDigest idle victims .map) i ≡ true →
+      SlotOrigin idle (viewsOf before (idle .size)) (viewsOf (stored before clean-plan) (idle .size)) W i
+  clean-slots =
+      heads-slots W (viewsOf before (idle .size)) (viewsOf (stored before clean-plan) (idle .size)) idle victims (digestWith idle victims next) (kept victims stand)
+      (c .sub) (next-clear (idle .slots) (idle .map) (idle .head) (facts .head-below) (facts .some-free)) views
 
 -- ---- the three operations
 
@@ -104,10 +124,11 @@ gives-tombstone : (e : Entry) → isTombstone e ≡ true → gives e ≡ none
 unfolding gives
 gives-tombstone e t = pick-true (isTombstone e) none (some e) t
 
-module _ (L : Layout) (roomy : Roomy L) (before : List ℕ) (idle : Record) where
+module _ (L : Layout) (roomy : (K : Layout) → Roomy K) (before : List ℕ) (idle : Record) where
   abbrev Finishes : Operation → Type 0
   Finishes o =
-      (recovered L (idle .slots) (idle .size) (idle .cells) (stored before (planAt L before idle o)) ≡ some (finishedRecord L before idle o))
+      (recovered (finishedRecord L before idle o .edition) (idle .slots) (idle .size) (idle .cells) (stored before (planAt L before idle o)) ≡
+      some (unswitched (finishedRecord L before idle o)))
       × ((j : Key) →
       valueAt (logNow (stored before (planAt L before idle o)) (finishedRecord L before idle o)) j ≡
       mapAfter idle o (valueAt (logNow before idle)) j)
@@ -115,25 +136,25 @@ module _ (L : Layout) (roomy : Roomy L) (before : List ℕ) (idle : Record) wher
   -- a delete, by whether its tombstone finds room
   finishes-delete : (k : Key) → Accepted L before idle (delete k) → Finishes (delete k)
   unfolding laid finishedRecord mapAfter planOf isNone pick
-  finishes-delete k a = go (noRoom idle (entrySize L 0)) refl
+  finishes-delete k a = go (noRoom L idle (entrySize L 0)) refl
     where
       x : Entry
       x = tombstoneEntry idle k
 
       shape : Laid → Record → Type 0
       shape l r =
-          (recovered L (idle .slots) (idle .size) (idle .cells) (stored before (planOf idle (l .pending 0) (l .bytes))) ≡ some r)
+          (recovered (r .edition) (idle .slots) (idle .size) (idle .cells) (stored before (planOf idle (l .pending 0) (l .bytes))) ≡ some (unswitched r))
           × ((j : Key) →
           valueAt (logNow (stored before (planOf idle (l .pending 0) (l .bytes))) r) j ≡ pick (sameKey j x) none (valueAt (logNow before idle) j))
 
-      go : (t : Bool) → noRoom idle (entrySize L 0) ≡ t →
-          shape (pick t (laidForget L idle (logNow before idle) k) (laidEntry L idle x))
-          (pick t (forgottenRecord L before idle k) (entryRecord L idle (logNow before idle) x))
+      go : (t : Bool) → noRoom L idle (entrySize L 0) ≡ t →
+          shape (pick t (laidForget (newLayout idle) idle (logNow before idle) k) (laidEntry L idle x))
+          (pick t (forgottenRecord (newLayout idle) before idle k) (entryRecord L idle (logNow before idle) x))
       go true full =
-          let done = clean-done L before idle _ _ _ (forget-cleans L before idle k a full) in
+          let done = clean-done L (newLayout idle) before idle _ _ _ (forget-cleans L before idle k a full) in
           (done .0, λ j. done .1 j ∙ forget-value L before idle k a j)
       go false room =
-          let done = entry-done L roomy before idle x (a .recovers) (a .area-bytes) (delete-enters L before idle k a room) in (
+          let done = entry-done L before idle x (a .recovers) (a .area-bytes) (delete-enters L before idle k a room) (roomy (newLayout idle)) in (
             done .0,
             λ j.
                 done .1 j ∙
@@ -145,24 +166,48 @@ module _ (L : Layout) (roomy : Roomy L) (before : List ℕ) (idle : Record) wher
   finishes (write k value) a =
       let x = writtenEntry idle k value in
       let f = write-enters L before idle k value a in
-      let done = entry-done L roomy before idle x (a .recovers) (a .area-bytes) f in (
+      let done = entry-done L before idle x (a .recovers) (a .area-bytes) f (roomy (newLayout idle)) in (
         done .0,
         λ j.
             done .1 j ∙
             ap (λ (y : Option Entry). pick (sameKey j x) y (valueAt (logNow before idle) j)) (gives-object x refl),
       )
   finishes (delete k) a = finishes-delete k a
-  finishes (clean victims) a = clean-done L before idle _ _ _ (clean-cleans L before idle victims a)
+  finishes (clean victims) a = clean-done L (newLayout idle) before idle _ _ _ (clean-cleans L before idle victims a)
+
+  -- whose log slots are of the edition that the head then has, or are those of before as they were
+  abbrev Slots : Laid → Record → Type 0
+  Slots l r =
+      (i : ℕ) → i < idle .slots → named (r .map) i ≡ true →
+      SlotOrigin idle (viewsOf before (idle .size)) (viewsOf (stored before (planOf idle (l .pending 0) (l .bytes))) (idle .size)) (r .edition) i
+
+  slots-delete : (k : Key) → Accepted L before idle (delete k) → Slots (laidDelete L idle (logNow before idle) k) (deletedRecord L before idle k)
+  unfolding planOf pick
+  slots-delete k a = go (noRoom L idle (entrySize L 0)) refl
+    where
+      go : (t : Bool) → noRoom L idle (entrySize L 0) ≡ t →
+          Slots (pick t (laidForget (newLayout idle) idle (logNow before idle) k) (laidEntry L idle (tombstoneEntry idle k)))
+          (pick t (forgottenRecord (newLayout idle) before idle k) (entryRecord L idle (logNow before idle) (tombstoneEntry idle k)))
+      go true full = clean-slots L (newLayout idle) before idle _ _ _ (forget-cleans L before idle k a full)
+      go false room =
+          entry-slots L before idle (tombstoneEntry idle k) (a .recovers) (a .area-bytes) (delete-enters L before idle k a room) (roomy (newLayout idle))
+
+  pub slots : (o : Operation) → Accepted L before idle o → Slots (laid L idle (logNow before idle) o) (finishedRecord L before idle o)
+  unfolding laid finishedRecord planOf
+  slots (write k value) a =
+      entry-slots L before idle (writtenEntry idle k value) (a .recovers) (a .area-bytes) (write-enters L before idle k value a) (roomy (newLayout idle))
+  slots (delete k) a = slots-delete k a
+  slots (clean victims) a = clean-slots L (newLayout idle) before idle _ _ _ (clean-cleans L before idle victims a)
 
 -- a delete takes the next version, whether or not an entry comes to have it
 pub deleted-next : (L : Layout) (before : List ℕ) (idle : Record) (k : Key) → finishedRecord L before idle (delete k) .next .0 ≡ idle .next .0 + 1
 unfolding finishedRecord pick
-deleted-next L before idle k = go (noRoom idle (entrySize L 0)) (fitsHead L idle (tombstoneEntry idle k))
+deleted-next L before idle k = go (noRoom L idle (entrySize L 0)) (fitsHead L idle (tombstoneEntry idle k))
   where
     go : (full fits : Bool) →
-        pick full (forgottenRecord L before idle k)
+        pick full (forgottenRecord (newLayout idle) before idle k)
         (pick fits (appendedRecord L idle (logNow before idle) (tombstoneEntry idle k))
-        (headedRecord L idle (logNow before idle) (tombstoneEntry idle k))) .next .0 ≡ idle .next .0 + 1
+        (headedRecord (newLayout idle) idle (logNow before idle) (tombstoneEntry idle k))) .next .0 ≡ idle .next .0 + 1
     go true fits = refl
     go false true = refl
     go false false = refl
@@ -170,7 +215,7 @@ deleted-next L before idle k = go (noRoom idle (entrySize L 0)) (fitsHead L idle
 -- ---- reading a recovered log
 
 -- a present entry is one of the log
-present-in : (log : List Placed) (k : Key) (x : Placed) → present log k ≡ some x → In x log
+pub present-in : (log : List Placed) (k : Key) (x : Placed) → present log k ≡ some x → In x log
 unfolding present objectOnly pick
 present-in log k x e = go (latest log k) refl e
   where
@@ -185,15 +230,7 @@ present-in log k x e = go (latest log k) refl e
             same : _≡_ {A = Option Placed} (some y) (some x) → y ≡ x
             same c = cc
 
--- an entry of the log stands in a slot of the store's edition, and in its segment
-log-layout :
-    (L : Layout) (n s m : ℕ) (area : List ℕ) (r : Record) → recovered L n s m area ≡ some r → (x : Placed) → In x (logNow area r) → x .layout ≡ L
-log-layout L n s m area r e x =
-    recovered-case L n s m area (λ (k : Record). In x (logNow area k) → x .layout ≡ L)
-    (λ h l f i.
-    let at = log-in (viewsOf area s) (named (h .digest .map)) n x i in
-    at .layout ∙ f .editions (x .slot) (at .below) (at .picked)) r e
-
+-- an entry of the log stands in its segment
 log-found :
     (L : Layout) (n s m : ℕ) (area : List ℕ) (r : Record) → recovered L n s m area ≡ some r → (x : Placed) → In x (logNow area r) →
     (x .slot < n) × (entryAt (x .layout) (segmentOf area s (x .slot)) (x .offset) ≡ entry (x .entry))
@@ -226,23 +263,26 @@ value-there area s x long e =
 
 -- ---- together
 
-pub operation-laws : (L : Layout) → Roomy L → OperationLaws L
+pub operation-laws : (L : Layout) → ((K : Layout) → Roomy K) → OperationLaws L
 operation-laws L roomy =
     record {
-      prefix-recovers = λ before idle o a k h. prefix-stays L before idle (a .recovers) _ _ (planned L roomy before idle o a) k h .0;
-      prefix-log = λ before idle o a k h. prefix-stays L before idle (a .recovers) _ _ (planned L roomy before idle o a) k h .1;
-      plan-bytes = λ before idle o a k. prefix-bytes L before idle (a .recovers) _ _ (planned L roomy before idle o a) (a .area-bytes) k;
+      prefix-recovers = λ before idle o a k h. prefix-stays L before idle (a .recovers) (newLayout idle) _ _ (planned L before idle (roomy (newLayout idle)) o a) k h .0;
+      prefix-log = λ before idle o a k h. prefix-stays L before idle (a .recovers) (newLayout idle) _ _ (planned L before idle (roomy (newLayout idle)) o a) k h .1;
+      plan-bytes = λ before idle o a k. prefix-bytes L before idle (a .recovers) (newLayout idle) _ _ (planned L before idle (roomy (newLayout idle)) o a) (a .area-bytes) k;
       finish-recovers = λ before idle o a. finishes L roomy before idle o a .0;
       finish-map = λ before idle o a. finishes L roomy before idle o a .1;
-      some-stores = λ before idle o a. plan-stores L before idle (a .recovers) _ _ (planned L roomy before idle o a);
-      few-stores = λ before idle o a. plan-most L before idle (a .recovers) _ _ (planned L roomy before idle o a);
-      bytes-fit = λ before idle o a. plan-fits L before idle (a .recovers) _ _ (planned L roomy before idle o a);
+      finish-slots = λ before idle o a. slots L roomy before idle o a;
+      prefix-slots =
+          λ before idle o a k h i q.
+          prefix-layout L before idle (a .recovers) (newLayout idle) _ _ (planned L before idle (roomy (newLayout idle)) o a) k h i q;
+      some-stores = λ before idle o a. plan-stores L before idle (a .recovers) (newLayout idle) _ _ (planned L before idle (roomy (newLayout idle)) o a);
+      few-stores = λ before idle o a. plan-most L before idle (a .recovers) (newLayout idle) _ _ (planned L before idle (roomy (newLayout idle)) o a);
+      bytes-fit = λ before idle o a. plan-fits L before idle (a .recovers) (newLayout idle) _ _ (planned L before idle (roomy (newLayout idle)) o a);
       own-lengths = λ n s m area r ab e. recovered-fits L n s m area r e ab;
       more-cells = λ n s m k area e good l. recovered-more L n s m k area (recordFrom L n s m area) e good l;
       version-below =
           λ area r e k x p.
           recovered-above L (r .slots) (r .size) (r .cells) area r e x (present-in (logNow area r) k x p);
-      present-layout = λ area r e k x p. log-layout L (r .slots) (r .size) (r .cells) area r e x (present-in (logNow area r) k x p);
       value-part =
           λ area r ab e k x p.
           let found = log-found L (r .slots) (r .size) (r .cells) area r e x (present-in (logNow area r) k x p) in
@@ -251,8 +291,8 @@ operation-laws L roomy =
           (slot-inside area (r .slots) (r .size) (x .slot) (recovered-holds L (r .slots) (r .size) (r .cells) area r e .area-own) (found .0)))
           (found .1);
       format-bytes = λ n s area ab. bytes-formatted L n s area ab;
-      format-recovers = λ n s m area g c. format-recovers L roomy n s area g m c;
-      format-log = λ n s m area g. format-log L roomy n s area g m;
+      format-recovers = λ n s m area g c. format-recovers L (roomy L) n s area g m c;
+      format-log = λ n s m area g. format-log L (roomy L) n s area g m;
     }
 
 -- ---- a table of kinds
@@ -293,4 +333,4 @@ edition-roomy First = table-roomy edition1 (lit< tt) refl
 edition-roomy Second = table-roomy edition2 (lit< tt) refl
 
 pub edition-laws : (L : Layout) → OperationLaws L
-edition-laws L = operation-laws L (edition-roomy L)
+edition-laws L = operation-laws L edition-roomy

@@ -10,13 +10,14 @@ use Rattle.segment.specs.Choice.{isNone}
 use Rattle.segment.specs.Layout.{Layout, entrySize}
 use Rattle.segment.specs.declared.Key.{Key}
 use Rattle.record.specs.Range.{cellsGood}
+use Rattle.record.specs.Switch.{newLayout}
 use Rattle.record.specs.declared.Refusal.the-variants.{BadOrder}
 use Rattle.record.specs.declared.Record.{Record}
 use Rattle.model.specs.Log.{View, Head, Placed, versionShared}
 use Rattle.model.specs.Causes.{Cause, when, firstCause}
-use Rattle.model.specs.Recovery.{geometryBad, orderBad, headElse, digestBad, mapBad, namesNoDigest, otherEdition, logDamaged, logSlots, logUnder, lentCauses, imageCauses}
+use Rattle.model.specs.Recovery.{geometryBad, orderBad, headElse, digestBad, mapBad, namesNoDigest, logDamaged, logSlots, logUnder, lentCauses, imageCausesBy}
 use Rattle.model.specs.Operations.{Operation, write, delete, clean}
-use Rattle.model.specs.Refused.{Lengths, Terms, KeyFacts, keyFacts, expectsOther, outsideTables, keptLength, recordBad, workShort, isPending, valueBad, versionsSpent, numbersSpent, keysFull, noRoom, noNumber, victimsBad, keptTooLong, writeCauses, deleteCauses, cleanCauses, startCauses, stepCauses}
+use Rattle.model.specs.Refused.{Lengths, Terms, KeyFacts, keyFacts, expectsOther, outsideTables, keptLength, recordBad, workShort, isPending, valueBad, versionsSpent, numbersSpent, keysFull, noRoom, noNumber, forgetTooLong, forgetLength, victimsBad, keptTooLong, writeCauses, deleteCauses, cleanCauses, startCauses, stepCauses}
 use Rattle.laws.specs.CauseLaws.{NoCause, no-cause}
 
 pub record WritePassed (L : Layout) (r : Record) (l : Lengths) (t : Terms) (j : Key) (k : KeyFacts) (n : ℕ) : Type 0 where
@@ -27,10 +28,10 @@ pub record WritePassed (L : Layout) (r : Record) (l : Lengths) (t : Terms) (j : 
   pub value-known : valueBad L n ≡ false
   pub log-sound : k .forbidden ≡ false
   pub as-expected : expectsOther (t .expected) (k .version) ≡ false
-  pub versions-left : versionsSpent L r ≡ false
+  pub versions-left : versionsSpent r ≡ false
   pub key-fits : keysFull r k ≡ false
-  pub room : noRoom r (entrySize L n) ≡ false
-  pub number-left : noNumber r (entrySize L n) ≡ false
+  pub room : noRoom L r (entrySize L n) ≡ false
+  pub number-left : noNumber L r (entrySize L n) ≡ false
 
 pub write-passed :
     (L : Layout) (r : Record) (l : Lengths) (t : Terms) (j : Key) (k : KeyFacts) (n : ℕ) → firstCause (writeCauses L r l t j k n) ≡ none →
@@ -51,21 +52,22 @@ write-passed L r l t j k n e =
       number-left = x .1 .1 .1 .1 .1 .1 .1 .1 .1 .1 .0;
     }
 
-pub record DeletePassed (L : Layout) (r : Record) (l : Lengths) (t : Terms) (j : Key) (k : KeyFacts) : Type 0 where
+pub record DeletePassed (L : Layout) (r : Record) (l : Lengths) (t : Terms) (j : Key) (k : KeyFacts) (n : ℕ) : Type 0 where
   pub record-good : recordBad L r l ≡ false
   pub in-reach : outsideTables (t .tables) j ≡ false
   pub work-long : workShort r l ≡ false
   pub idle : isPending (r .pending) ≡ false
   pub log-sound : k .forbidden ≡ false
   pub present : k .absent ≡ false
-  pub versions-left : versionsSpent L r ≡ false
-  pub number-left : noNumber r (entrySize L 0) ≡ false
+  pub versions-left : versionsSpent r ≡ false
+  pub room : forgetTooLong L r n ≡ false
+  pub number-left : noNumber L r (entrySize L 0) ≡ false
 
 pub delete-passed :
-    (L : Layout) (r : Record) (l : Lengths) (t : Terms) (j : Key) (k : KeyFacts) → firstCause (deleteCauses L r l t j k) ≡ none →
-    DeletePassed L r l t j k
-delete-passed L r l t j k e =
-    let x : NoCause (deleteCauses L r l t j k) = no-cause (deleteCauses L r l t j k) e in
+    (L : Layout) (r : Record) (l : Lengths) (t : Terms) (j : Key) (k : KeyFacts) (n : ℕ) → firstCause (deleteCauses L r l t j k n) ≡ none →
+    DeletePassed L r l t j k n
+delete-passed L r l t j k n e =
+    let x : NoCause (deleteCauses L r l t j k n) = no-cause (deleteCauses L r l t j k n) e in
     record {
       record-good = x .0;
       in-reach = x .1 .0;
@@ -74,7 +76,8 @@ delete-passed L r l t j k e =
       log-sound = x .1 .1 .1 .1 .0;
       present = x .1 .1 .1 .1 .1 .0;
       versions-left = x .1 .1 .1 .1 .1 .1 .0;
-      number-left = x .1 .1 .1 .1 .1 .1 .1 .0;
+      room = x .1 .1 .1 .1 .1 .1 .1 .0;
+      number-left = x .1 .1 .1 .1 .1 .1 .1 .1 .0;
     }
 
 pub record CleanPassed (L : Layout) (r : Record) (l : Lengths) (n victims : ℕ) : Type 0 where
@@ -82,7 +85,7 @@ pub record CleanPassed (L : Layout) (r : Record) (l : Lengths) (n victims : ℕ)
   pub work-long : workShort r l ≡ false
   pub idle : isPending (r .pending) ≡ false
   pub victims-good : victimsBad r victims ≡ false
-  pub kept-fits : keptTooLong L r n ≡ false
+  pub kept-fits : keptTooLong r n ≡ false
   pub number-left : numbersSpent r ≡ false
 
 pub clean-passed : (L : Layout) (r : Record) (l : Lengths) (n victims : ℕ) → firstCause (cleanCauses L r l n victims) ≡ none → CleanPassed L r l n victims
@@ -110,9 +113,9 @@ unfolding startCauses
 start-passed L r log l t (write k value) e =
     let x = write-passed L r l t k (keyFacts log k) (length value) e in record { record-good = x .record-good; work-long = x .work-long; idle = x .idle }
 start-passed L r log l t (delete k) e =
-    let x = delete-passed L r l t k (keyFacts log k) e in record { record-good = x .record-good; work-long = x .work-long; idle = x .idle }
+    let x = delete-passed L r l t k (keyFacts log k) (forgetLength (newLayout r) r log k) e in record { record-good = x .record-good; work-long = x .work-long; idle = x .idle }
 start-passed L r log l t (clean victims) e =
-    let x = clean-passed L r l (keptLength L log victims) victims e in record { record-good = x .record-good; work-long = x .work-long; idle = x .idle }
+    let x = clean-passed L r l (keptLength (newLayout r) log victims) victims e in record { record-good = x .record-good; work-long = x .work-long; idle = x .idle }
 
 pub record StepPassed (L : Layout) (r : Record) (l : Lengths) : Type 0 where
   pub record-good : recordBad L r l ≡ false
@@ -137,25 +140,25 @@ lent-passed n s m areaLength order e =
     let t : NoCause (lentCauses n s m areaLength ++ (when (orderBad n order) BadOrder ∷ [])) = no-cause _ e in
     record { geometry-good = t .0; cells-within = t .1 .0; order-good = t .1 .1 .0 }
 
--- and of the image before it counts keys.
-pub record ImagePassed (L : Layout) (v : ℕ → View) (n : ℕ) (h : Option Head) : Type 0 where
+-- and of the image before it counts keys, by whether its editions bring 28.
+pub record ImagePassed (mixed : Bool) (v : ℕ → View) (n : ℕ) (h : Option Head) : Type 0 where
   pub has-head : isNone h ≡ false
   pub digest-good : digestBad v n (headElse h) ≡ false
   pub map-within : mapBad n (headElse h) ≡ false
   pub all-digests : namesNoDigest v (logSlots (headElse h)) n ≡ false
-  pub one-edition : otherEdition L v (logSlots (headElse h)) n ≡ false
+  pub editions-good : mixed ≡ false
   pub undamaged : logDamaged v (logSlots (headElse h)) n ≡ false
   pub versions-apart : versionShared (logUnder v n (headElse h)) ≡ false
 
-pub image-passed : (L : Layout) (v : ℕ → View) (n : ℕ) (h : Option Head) → firstCause (imageCauses L v n h) ≡ none → ImagePassed L v n h
-image-passed L v n h e =
-    let t : NoCause (imageCauses L v n h) = no-cause (imageCauses L v n h) e in
+pub image-passed : (mixed : Bool) (v : ℕ → View) (n : ℕ) (h : Option Head) → firstCause (imageCausesBy mixed v n h) ≡ none → ImagePassed mixed v n h
+image-passed mixed v n h e =
+    let t : NoCause (imageCausesBy mixed v n h) = no-cause (imageCausesBy mixed v n h) e in
     record {
       has-head = t .0;
       digest-good = t .1 .0;
       map-within = t .1 .1 .0;
       all-digests = t .1 .1 .1 .0;
-      one-edition = t .1 .1 .1 .1 .0;
+      editions-good = t .1 .1 .1 .1 .0;
       undamaged = t .1 .1 .1 .1 .1 .0;
       versions-apart = t .1 .1 .1 .1 .1 .1 .0;
     }

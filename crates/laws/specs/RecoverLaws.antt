@@ -9,11 +9,11 @@ use native.Mathlib.Omega.{arith}
 use lib.Dec.{eqb}
 use lib.ListN.{length, getD, drop}
 use borrow.Author.Tests.{ltb-false, eqb-true, eqb-false, not-false, lt-ltb, le-ltb, eq-eqb, ne-eqb}
-use Rattle.segment.specs.Choice.{pick, both-left, both-right, both-true, either-false, either-false-left, either-false-right, isNone}
+use Rattle.segment.specs.Choice.{pick, pick-true, both-left, both-right, both-true, either-false, either-false-left, either-false-right, isNone}
 use Rattle.word.specs.Number.{Bytes}
 use Rattle.word.specs.Laws.{bytes-take, bytes-drop}
-use Rattle.segment.specs.Layout.{Layout, digestSize, versionLimit, numberLimit, table}
-use Rattle.segment.specs.LayoutLaws.{version-below}
+use Rattle.segment.specs.Layout.{Layout, sameLayout, digestSize, versionLimit, numberLimit, table}
+use Rattle.segment.specs.LayoutLaws.{version-below, same-layout, layout-same}
 use Rattle.segment.specs.Entry.{Entry, entry, entryAt}
 use Rattle.segment.specs.EntryLaws.{found-readable}
 use Rattle.segment.specs.DigestLaws.{digest-number-fits, digest-next-fits}
@@ -21,8 +21,9 @@ use Rattle.segment.specs.Digest.{digestOf, layoutIn}
 use Rattle.segment.specs.declared.Digest.{Digest}
 use Rattle.slot_map.specs.Bit.{named}
 use Rattle.slot_map.specs.Count.{used}
-use Rattle.record.specs.Range.{slotsGood, sizeGood, cellsGood, mapGood, countsGood, fitsLent}
+use Rattle.record.specs.Range.{slotsGood, sizeGood, cellsGood, mapGood, countsGood, mostPresent, fitsLent}
 use Rattle.record.specs.RangeLaws.{Lent, map-in, between-low, between-high, fits-lent}
+use Rattle.record.specs.Switch.{newLayout}
 use Rattle.record.specs.declared.Refusal.{Refusal}
 use Rattle.record.specs.declared.Refusal.the-variants.{BadOrder}
 use Rattle.record.specs.declared.Record.{Record}
@@ -31,9 +32,10 @@ use Rattle.record.specs.declared.RecoverAnswer.{RecoverAnswer}
 use Rattle.model.specs.Log.{View, Head, Placed, scanned, itemsOf, scan, digestIn, segmentOf, viewsOf, headOf, logOf, endOf, isDamaged, keysOf, versionShared, highest}
 use Rattle.model.specs.Causes.{Cause, when, firstCause}
 use Rattle.model.specs.Counts.{countsOf}
-use Rattle.model.specs.Recovery.{headElse, sharing, mapBad, logSlots, logUnder, recordUnder, imageCauses, keyCauses, lentCauses, areaCauses, ifNone, recordFrom, recovered, orderBad, recoveryFor, recovery, recoverCauses, imageLayout}
+use Rattle.model.specs.Recovery.{later, headElse, sharing, mapBad, logSlots, logUnder, recordUnder, imageCauses, keyCauses, lentCauses, areaCauses, ifNone, recordFrom, recovered, orderBad, recoveryFor, recovery, recoverCauses, imageLayout}
 use Rattle.model.specs.Operations.{logNow, allEncoded}
 use Rattle.laws.specs.CauseLaws.{NoCause, no-cause, none-left, causes-none, cause-passed}
+use Rattle.laws.specs.Editions.{later-limit, first-shortest}
 use Rattle.laws.specs.Passed.{lent-passed}
 use Rattle.laws.specs.Members.{clash, In}
 use Rattle.laws.specs.Latest.{Apart}
@@ -42,7 +44,7 @@ use Rattle.laws.specs.Stores.{slot-inside, length-segment}
 use Rattle.laws.specs.Scans.{itemEntries, scan-scans, scans-low, scans-high, scans-total, scans-found, Scans}
 use Rattle.laws.specs.HeadLaws.{SameViews, digests-same, TopHead, head-is, is-top, top-head, top-alone, top-stays}
 use Rattle.laws.specs.Counted.{counts-fit}
-use Rattle.laws.specs.LogLaws.{AllOf, AllDigests, AllScanned, names-digests, digests-named, editions-one, one-edition, undamaged-scans, scans-undamaged, log-same, log-in, scan-whole, alike-view}
+use Rattle.laws.specs.LogLaws.{NoneLater, AllDigests, AllScanned, names-digests, digests-named, editions-before, before-editions, undamaged-scans, scans-undamaged, log-same, log-in, scan-whole, alike-view}
 
 -- ---- an image that recovery accepts
 
@@ -53,7 +55,8 @@ pub record Sound (L : Layout) (v : ℕ → View) (n m : ℕ) (h : Head) : Type 0
   pub map-good : mapGood n (h .slot) (h .digest .map) ≡ true
   pub digests : AllDigests v (logSlots h) n
   pub next-set : h .digest .next .0 ≡ 0 → ⊥
-  pub editions : AllOf L v (logSlots h) n
+  pub own : v (h .slot) .layout ≡ L
+  pub editions : NoneLater L v (logSlots h) n
   pub scans : AllScanned v (logSlots h) n
   pub versions : versionShared (logUnder v n h) ≡ false
   pub keys : length (keysOf (logUnder v n h)) ≤ m - 1
@@ -63,9 +66,9 @@ module _ (L : Layout) (v : ℕ → View) (n m : ℕ) where
   abbrev pub headCauses : Head → List Cause
   headCauses h = imageCauses L v n (some h) ++ keyCauses v n m (some h)
 
-  pub clear-sound : (h : Head) → headOf v n ≡ some h → NoCause (headCauses h) → Sound L v n m h
+  pub clear-sound : (h : Head) → headOf v n ≡ some h → v (h .slot) .layout ≡ L → NoCause (headCauses h) → Sound L v n m h
   unfolding isNone headElse
-  clear-sound h e f =
+  clear-sound h e own f =
       let digest = f .1 .0 in
       let number = either-false-left _ _ digest in
       record {
@@ -76,7 +79,8 @@ module _ (L : Layout) (v : ℕ → View) (n m : ℕ) where
         map-good = not-false _ (f .1 .1 .0);
         digests = names-digests v (logSlots h) n (f .1 .1 .1 .0);
         next-set = eqb-false (h .digest .next .0) 0 (either-false-right _ _ digest);
-        editions = editions-one v (logSlots h) n L (f .1 .1 .1 .1 .0);
+        own = own;
+        editions = editions-before v (logSlots h) n L (f .1 .1 .1 .1 .0);
         scans = undamaged-scans v (logSlots h) n (f .1 .1 .1 .1 .1 .0);
         versions = f .1 .1 .1 .1 .1 .1 .0;
         keys = ltb-false (m - 1) (length (keysOf (logUnder v n h))) (f .1 .1 .1 .1 .1 .1 .1 .0);
@@ -97,7 +101,7 @@ module _ (L : Layout) (v : ℕ → View) (n m : ℕ) where
             (
               digests-named v (logSlots h) n (s .digests),
               (
-                one-edition v (logSlots h) n L (s .editions),
+                before-editions v (logSlots h) n L (s .editions),
                 (scans-undamaged v (logSlots h) n (s .scans), (s .versions, (le-ltb (m - 1) (length (keysOf (logUnder v n h))) (s .keys), tt))),
               ),
             ),
@@ -108,14 +112,17 @@ module _ (L : Layout) (v : ℕ → View) (n m : ℕ) where
   pub sound-head : (h : Head) → Sound L v n m h → headOf v n ≡ some h
   sound-head h s = top-head v n h (s .top)
 
-  -- an image without a cause has a head
-  pub clear-head : NoCause (imageCauses L v n (headOf v n) ++ keyCauses v n m (headOf v n)) → (h : Head) × (headOf v n ≡ some h) × Sound L v n m h
-  unfolding isNone
+  -- an image without a cause has a head, and its slot tells the edition
+  pub clear-head :
+      v (headElse (headOf v n) .slot) .layout ≡ L → NoCause (imageCauses L v n (headOf v n) ++ keyCauses v n m (headOf v n)) →
+      (h : Head) × (headOf v n ≡ some h) × Sound L v n m h
+  unfolding isNone headElse
   clear-head = go (headOf v n) refl
     where
-      go : (o : Option Head) → headOf v n ≡ o → NoCause (imageCauses L v n o ++ keyCauses v n m o) → (h : Head) × (headOf v n ≡ some h) × Sound L v n m h
-      go none e f = let q : true ≡ false = f .0 in let z : _≡_ {A = ℕ} 0 1 = cc in absurd (omega arith)
-      go (some h) e f = (h, e, clear-sound h e f)
+      go : (o : Option Head) → headOf v n ≡ o → v (headElse o .slot) .layout ≡ L → NoCause (imageCauses L v n o ++ keyCauses v n m o) →
+          (h : Head) × (headOf v n ≡ some h) × Sound L v n m h
+      go none e own f = let q : true ≡ false = f .0 in let z : _≡_ {A = ℕ} 0 1 = cc in absurd (omega arith)
+      go (some h) e own f = (h, e, clear-sound h e own f)
 
 -- ---- an area that recovery accepts
 
@@ -156,17 +163,37 @@ unfolding ifNone
 if-none none a r e = (refl, cc)
 if-none (some c) a r e = let z : _≡_ {A = ℕ} 0 1 = cc in absurd (omega arith)
 
+if-own : (t : Bool) (o : Option Record) (r : Record) → pick t o none ≡ some r → (t ≡ true) × (o ≡ some r)
+unfolding pick
+if-own true o r e = (refl, e)
+if-own false o r e = let z : _≡_ {A = ℕ} 0 1 = cc in absurd (omega arith)
+
 module _ (L : Layout) (n s m : ℕ) (area : List ℕ) where
   -- the views of the area
   abbrev v : ℕ → View
   v = viewsOf area s
 
+  -- what recovery is asked, but for the edition
+  abbrev whatever : Option Record
+  whatever = ifNone (firstCause (areaCauses L n s m area)) (recordFrom L n s m area)
+
+  -- the edition is the one that the head's slot tells
+  pub recovered-own : (r : Record) → recovered L n s m area ≡ some r → (imageLayout n s area ≡ L) × (whatever ≡ some r)
+  unfolding recovered
+  recovered-own r e =
+      let both = if-own (sameLayout (imageLayout n s area) L) whatever r e in (same-layout (imageLayout n s area) L (both .0), both .1)
+
+  pub own-recovered : imageLayout n s area ≡ L → recovered L n s m area ≡ whatever
+  unfolding recovered
+  own-recovered own = pick-true _ whatever none (ap (λ (K : Layout). sameLayout K L) own ∙ layout-same L)
+
   pub recovered-facts : (r : Record) → recovered L n s m area ≡ some r → Recovers L n s m area r
-  unfolding recovered headElse
+  unfolding headElse
   recovered-facts r e =
-      let accepted = if-none (firstCause (areaCauses L n s m area)) (recordFrom L n s m area) r e in
+      let own = recovered-own r e in
+      let accepted = if-none (firstCause (areaCauses L n s m area)) (recordFrom L n s m area) r (own .1) in
       let clear = no-cause (areaCauses L n s m area) (accepted .0) in
-      let found = clear-head L v n m (clear .1 .1) in
+      let found = clear-head L v n m (own .0) (clear .1 .1) in
       record {
         lent = clear-lent n s m (length area) (clear .0, (clear .1 .0, tt));
         head = found .0;
@@ -176,13 +203,14 @@ module _ (L : Layout) (n s m : ℕ) (area : List ℕ) where
       }
 
   pub facts-recovered : (r : Record) → Recovers L n s m area r → recovered L n s m area ≡ some r
-  unfolding recovered headElse ifNone
+  unfolding headElse ifNone
   facts-recovered r f =
       let lent = lent-clear n s m (length area) (f .lent) in
       let image : NoCause (imageCauses L v n (headOf v n) ++ keyCauses v n m (headOf v n)) =
       subst (λ (o : Option Head). NoCause (imageCauses L v n o ++ keyCauses v n m o)) (sym (f .head-is))
       (sound-clear L v n m (f .head) (f .sound)) in
       let accepted = causes-none (areaCauses L n s m area) (lent .0, (lent .1 .0, image)) in
+      own-recovered (ap (λ (o : Option Head). v (headElse o .slot) .layout) (f .head-is) ∙ f .sound .own) ∙
       ap (λ (o : Option Refusal). ifNone o (recordFrom L n s m area)) accepted ∙
       ap some (ap (λ (o : Option Head). recordUnder L v n s m (headElse o)) (f .head-is) ∙ sym (f .same))
 
@@ -227,19 +255,19 @@ module _ (L : Layout) (n s m : ℕ) (area : List ℕ) where
       (none-left (lentCauses n s m (length area) ++ (when (orderBad n order) BadOrder ∷ [])) (imageCauses L v n (headOf v n) ++ keyCauses v n m (headOf v n))
       (recovery-none (firstCause (recoverCauses L n s m order area)) (recordFrom L n s m area) r e .0)) .order-good
 
-  pub recovery-recovered : (order : List ℕ) (r : Record) → recovery L n s m order area ≡ record { answer = RecoverAnswer.Recovered; rec = r }
-      → recovered L n s m area ≡ some r
-  unfolding recovered ifNone
-  recovery-recovered order r e =
+  pub recovery-recovered : (order : List ℕ) (r : Record) → imageLayout n s area ≡ L
+      → recovery L n s m order area ≡ record { answer = RecoverAnswer.Recovered; rec = r } → recovered L n s m area ≡ some r
+  unfolding ifNone
+  recovery-recovered order r own e =
       let accepted =
       recovery-none (firstCause (areaCauses L n s m area)) (recordFrom L n s m area) r (sym (order-free order (recovery-order order r e)) ∙ e) in
-      ap (λ (o : Option Refusal). ifNone o (recordFrom L n s m area)) (accepted .0) ∙ ap some (accepted .1)
+      own-recovered own ∙ ap (λ (o : Option Refusal). ifNone o (recordFrom L n s m area)) (accepted .0) ∙ ap some (accepted .1)
 
   pub recovered-recovery : (order : List ℕ) (r : Record) → orderBad n order ≡ false → recovered L n s m area ≡ some r
       → recovery L n s m order area ≡ record { answer = RecoverAnswer.Recovered; rec = r }
-  unfolding recovered recoveryFor
+  unfolding recoveryFor
   recovered-recovery order r good e =
-      let accepted = if-none (firstCause (areaCauses L n s m area)) (recordFrom L n s m area) r e in
+      let accepted = if-none (firstCause (areaCauses L n s m area)) (recordFrom L n s m area) r (recovered-own r e .1) in
       order-free order good ∙ ap (λ (o : Option Refusal). recoveryFor o (recordFrom L n s m area)) (accepted .0) ∙
       ap (λ (x : Record). record { answer = RecoverAnswer.Recovered; rec = x }) (accepted .1)
 
@@ -256,7 +284,7 @@ module _ (L : Layout) (v : ℕ → View) (n s m : ℕ) (h : Head) where
 
   -- and no slot has more present bytes than come behind a digest
   abbrev pub CountsInside : Type 0
-  CountsInside = countsGood (s - digestSize L) (countsOf (logUnder v n h)) ≡ true
+  CountsInside = countsGood (mostPresent s) (countsOf (logUnder v n h)) ≡ true
 
   pub under-lent : (areaLength : ℕ) → Allowed n s m areaLength → Sound L v n m h → EndsInside → CountsInside → Lent L (recordUnder L v n s m h) areaLength m
   under-lent areaLength l f e c =
@@ -312,6 +340,7 @@ more-sound L v n m k h l f =
       map-good = f .map-good;
       digests = f .digests;
       next-set = f .next-set;
+      own = f .own;
       editions = f .editions;
       scans = f .scans;
       versions = f .versions;
@@ -369,7 +398,8 @@ module _ (L : Layout) (v v′ : ℕ → View) (n m : ℕ) (h : Head) (f : Sound 
         map-good = f .map-good;
         digests = λ i l e. let d = f .digests i l e in (d .0, ap (λ (x : View). x .digest) (u .kept i l e) ∙ d .1);
         next-set = f .next-set;
-        editions = λ i l e. ap (λ (x : View). x .layout) (u .kept i l e) ∙ f .editions i l e;
+        own = ap (λ (x : View). x .layout) head-kept ∙ f .own;
+        editions = λ i l e. ap (λ (x : View). later (x .layout) L) (u .kept i l e) ∙ f .editions i l e;
         scans = λ i l e. ap (λ (x : View). isDamaged (x .scan)) (u .kept i l e) ∙ f .scans i l e;
         versions = ap versionShared untouched-log ∙ f .versions;
         keys = rw untouched-log (f .keys);
@@ -441,10 +471,6 @@ module _ (L : Layout) (n s m : ℕ) (area : List ℕ) (h : Head) (f : Sound L (v
   pub head-slot : logSlots h (h .slot) ≡ true
   head-slot = map-in n (h .slot) (h .digest .map) (f .map-good) .head-named
 
-  -- a log slot is of the store's edition, and its entries are read by it
-  pub log-scan : (i : ℕ) → i < n → logSlots h i ≡ true → viewsOf area s i .scan ≡ scan L (segmentOf area s i)
-  log-scan i b q = ap (λ (K : Layout). scan K (segmentOf area s i)) (f .editions i b q)
-
   -- the entries of a log slot, by its own edition
   pub slot-scans : (i : ℕ) → i < n → logSlots h i ≡ true
       → Scans (viewsOf area s i .layout) (segmentOf area s i) (digestSize (viewsOf area s i .layout)) (itemsOf (viewsOf area s i .scan)) (endOf (viewsOf area s i .scan))
@@ -464,9 +490,11 @@ module _ (L : Layout) (n s m : ℕ) (area : List ℕ) (h : Head) (f : Sound L (v
   pub placed-found : (x : Placed) → In x (logUnder (viewsOf area s) n h) → entryAt (x .layout) (segmentOf area s (x .slot)) (x .offset) ≡ entry (x .entry)
   placed-found x m = scans-found (placed-scans x m) (log-in (viewsOf area s) (logSlots h) n x m .item)
 
-  pub log-whole : (i : ℕ) → i < n → logSlots h i ≡ true
-      → scan L (segmentOf area s i) ≡ scanned (itemsOf (viewsOf area s i .scan)) (endOf (viewsOf area s i .scan))
-  log-whole i b q = sym (log-scan i b q) ∙ scan-whole (viewsOf area s i .scan) (f .scans i b q)
+  -- the head's own entries, by the store's edition
+  pub head-whole : scan L (segmentOf area s (h .slot)) ≡ scanned (itemsOf (viewsOf area s (h .slot) .scan)) (endOf (viewsOf area s (h .slot) .scan))
+  head-whole =
+      ap (λ (K : Layout). scan K (segmentOf area s (h .slot))) (sym (f .own)) ∙
+      scan-whole (viewsOf area s (h .slot) .scan) (f .scans (h .slot) (f .top .below) head-slot)
 
 -- an entry that is found has a version below the limit
 found-version : (L : Layout) (b : List ℕ) (at : ℕ) (x : Entry) → entryAt L b at ≡ entry x → x .version < versionLimit L
@@ -482,26 +510,27 @@ module _ (L : Layout) (n s m : ℕ) (area : List ℕ) (r : Record) (e : recovere
   pub recovered-layout : layoutIn (segmentOf area s (r .head)) ≡ L
   recovered-layout =
       recovered-case L n s m area (λ (k : Record). layoutIn (segmentOf area s (k .head)) ≡ L)
-      (λ h l f. f .editions (h .slot) (f .top .below) (head-slot L n s m area h f)) r e
+      (λ h l f. f .own) r e
 
   -- the edition that the record has
   pub recovered-edition : r .edition ≡ L
   recovered-edition = recovered-case L n s m area (λ (k : Record). k .edition ≡ L) (λ h l f. refl) r e
 
+  -- and the one of its next new head
+  pub recovered-new : newLayout r ≡ L
+  unfolding pick
+  recovered-new = recovered-case L n s m area (λ (k : Record). newLayout k ≡ L) (λ h l f. refl) r e
+
   -- is the one that the head's slot tells
   pub recovered-image : imageLayout n s area ≡ L
-  unfolding headElse
-  recovered-image =
-      let f = recovered-facts L n s m area r e in
-      ap (λ (o : Option Head). viewsOf area s (headElse o .slot) .layout) (f .head-is)
-      ∙ f .sound .editions (f .head .slot) (f .sound .top .below) (head-slot L n s m area (f .head) (f .sound))
+  recovered-image = recovered-own L n s m area r e .0
 
   -- the head's entries end where the record says, behind the digest and in the segment
   pub recovered-scan : scan L (segmentOf area s (r .head)) ≡ scanned (itemsOf (viewsOf area s (r .head) .scan)) (r .end)
   recovered-scan =
       recovered-case L n s m area
       (λ (k : Record). scan L (segmentOf area s (k .head)) ≡ scanned (itemsOf (viewsOf area s (k .head) .scan)) (k .end))
-      (λ h l f. log-whole L n s m area h f (h .slot) (f .top .below) (head-slot L n s m area h f)) r e
+      (λ h l f. head-whole L n s m area h f) r e
 
   pub recovered-ends : (digestSize L ≤ r .end) × (r .end ≤ s)
   recovered-ends =
@@ -511,7 +540,7 @@ module _ (L : Layout) (n s m : ℕ) (area : List ℕ) (r : Record) (e : recovere
 
   -- what a log slot holds fits behind a digest
   slot-holds : (h : Head) → Allowed n s m (length area) → Sound L (viewsOf area s) n m h → (i : ℕ) → i < n → logSlots h i ≡ true
-      → length (allEncoded (viewsOf area s i .layout) (itemEntries (itemsOf (viewsOf area s i .scan)))) ≤ s - digestSize L
+      → length (allEncoded (viewsOf area s i .layout) (itemEntries (itemsOf (viewsOf area s i .scan)))) ≤ mostPresent s
   slot-holds h l f i b q =
       let scans = slot-scans L n s m area h f i b q in
       omega (
@@ -519,7 +548,7 @@ module _ (L : Layout) (n s m : ℕ) (area : List ℕ) (r : Record) (e : recovere
         scans-total scans,
         scans-high scans,
         length-segment area s i (slot-inside area n s i (l .long) b),
-        ap digestSize (f .editions i b q),
+        first-shortest (viewsOf area s i .layout),
       )
 
   pub recovered-holds : Lent L r (length area) m
@@ -527,13 +556,13 @@ module _ (L : Layout) (n s m : ℕ) (area : List ℕ) (r : Record) (e : recovere
       recovered-case L n s m area (λ (k : Record). (digestSize L ≤ k .end) × (k .end ≤ s) → Lent L k (length area) m)
       (λ h l f ends.
       under-lent L (viewsOf area s) n s m h (length area) l f ends
-      (counts-fit (viewsOf area s) (h .digest .map) n (s - digestSize L) (slot-holds h l f))) r e recovered-ends
+      (counts-fit (viewsOf area s) (h .digest .map) n (mostPresent s) (slot-holds h l f))) r e recovered-ends
 
   -- in an area of bytes the record's numbers fit theirs
   module _ (bytes : Bytes area) where
     own-digest : (h : Head) → Sound L (viewsOf area s) n m h → h .digest ≡ digestOf L (segmentOf area s (h .slot))
     own-digest h f =
-        digest-in L (segmentOf area s (h .slot)) (h .digest) (f .editions (h .slot) (f .top .below) (head-slot L n s m area h f)) (f .top .own)
+        digest-in L (segmentOf area s (h .slot)) (h .digest) (f .own) (f .top .own)
 
     pub recovered-number : r .digest .0 ≤ numberLimit
     recovered-number =
@@ -550,7 +579,7 @@ module _ (L : Layout) (n s m : ℕ) (area : List ℕ) (r : Record) (e : recovere
     log-version h f x i =
         let at = log-in (viewsOf area s) (logSlots h) n x i in
         let its = found-version (x .layout) (segmentOf area s (x .slot)) (x .offset) (x .entry) (placed-found L n s m area h f x i) in
-        omega (arith, its, ap versionLimit (at .layout ∙ f .editions (x .slot) (at .below) (at .picked)))
+        omega (arith, its, later-limit (x .layout) L (ap (λ (K : Layout). later K L) (at .layout) ∙ f .editions (x .slot) (at .below) (at .picked)))
 
     pub recovered-next : r .next .0 ≤ versionLimit L
     recovered-next =

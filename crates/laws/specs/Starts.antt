@@ -1,27 +1,29 @@
 -- What holds of every start.
 use Prim.Native.Nat.{ℕ}
-use mathlib.Core.Path.{_≡_, refl, ap}
+use mathlib.Core.Path.{_≡_, refl, sym, ap, _∙_}
 use mathlib.Core.Bool.{true, false, not}
-use mathlib.Core.List.{List, [], _∷_}
+use mathlib.Core.List.{List, [], _∷_, _++_}
 use mathlib.Core.Option.{Option, none, some}
 use lib.Dec.{eqb}
 use lib.ListN.{length}
 use lib.Seq.{length-sets}
 use borrow.Author.Tests.{not-false}
-use Rattle.segment.specs.Layout.{Layout}
+use Rattle.segment.specs.Choice.{both-false-right}
+use Rattle.segment.specs.Layout.{Layout, entrySize}
 use Rattle.segment.specs.declared.Key.{Key}
 use Rattle.record.specs.Refusals.{numberOfRefusal}
 use Rattle.record.specs.declared.Refusal.{Refusal}
-use Rattle.record.specs.declared.Refusal.the-variants.{BadRecord, Absent}
+use Rattle.record.specs.declared.Refusal.the-variants.{BadRecord, Absent, OutsideTables, WorkShort, Busy, VersionsSpent, NoRoom, NumbersSpent}
 use Rattle.record.specs.declared.Tables.{Tables}
 use Rattle.record.specs.Reach.{holdsTable, all-hold}
+use Rattle.record.specs.Switch.{newLayout}
 use Rattle.record.specs.declared.Record.{Record}
 use Rattle.model.specs.Log.{Placed}
-use Rattle.model.specs.Causes.{when, firstCause}
+use Rattle.model.specs.Causes.{Cause, when, firstCause}
 use Rattle.model.specs.Operations.{Operation, write, delete, clean, Typed, laid}
-use Rattle.model.specs.Refused.{Lengths, Terms, freely, keyFacts, keyAbsent, expectsOther, recordBad, reachCauses, earlyCauses, readCauses, writeCauses, deleteCauses, startCauses}
+use Rattle.model.specs.Refused.{Lengths, Terms, freely, keyFacts, keyAbsent, expectsOther, recordBad, outsideTables, workShort, isPending, versionsSpent, noRoom, noNumber, keptTooLong, forgetTooLong, forgetLength, reachCauses, earlyCauses, readCauses, writeCauses, deleteCauses, startCauses}
 use Rattle.model.specs.Promises.{begun}
-use Rattle.laws.specs.CauseLaws.{cause-first, first-some, NoCause, no-cause, causes-none, never-met}
+use Rattle.laws.specs.CauseLaws.{cause-first, cause-passed, first-some, NoCause, no-cause, causes-none, never-met}
 
 -- the work buffer keeps its length
 pub begun-length : (L : Layout) (r : Record) (log : List Placed) (o : Operation) (work : List ℕ) (c : Option Refusal) →
@@ -59,8 +61,9 @@ freely-accepted L r log l t (write k value) typed e =
     causes-none (writeCauses L r l freely k (keyFacts log k) (length value))
     (x .0, (ap not (all-hold (k .table) (typed .0 .0)), (x .1 .1 .0, (x .1 .1 .1 .0, (x .1 .1 .1 .1 .0, (x .1 .1 .1 .1 .1 .0, (refl, x .1 .1 .1 .1 .1 .1 .1)))))))
 freely-accepted L r log l t (delete k) typed e =
-    let x : NoCause (deleteCauses L r l t k (keyFacts log k)) = no-cause (deleteCauses L r l t k (keyFacts log k)) e in
-    causes-none (deleteCauses L r l freely k (keyFacts log k)) (x .0, (ap not (all-hold (k .table) (typed .0)), x .1 .1))
+    let n = forgetLength (newLayout r) r log k in
+    let x : NoCause (deleteCauses L r l t k (keyFacts log k) n) = no-cause (deleteCauses L r l t k (keyFacts log k) n) e in
+    causes-none (deleteCauses L r l freely k (keyFacts log k) n) (x .0, (ap not (all-hold (k .table) (typed .0)), x .1 .1))
 freely-accepted L r log l t (clean victims) typed e = e
 
 -- whether the tables of a start hold its key's
@@ -75,11 +78,32 @@ pub start-inside :
     StartInside t o
 unfolding startCauses StartInside
 start-inside L r log l t (write k value) e = not-false _ (no-cause (writeCauses L r l t k (keyFacts log k) (length value)) e .1 .0)
-start-inside L r log l t (delete k) e = not-false _ (no-cause (deleteCauses L r l t k (keyFacts log k)) e .1 .0)
+start-inside L r log l t (delete k) e =
+    not-false _ (no-cause (deleteCauses L r l t k (keyFacts log k) (forgetLength (newLayout r) r log k)) e .1 .0)
 start-inside L r log l t (clean victims) e = tt
 
--- 02, R-4: a delete never meets 12, whatever record and log it is given.
-pub delete-never-full : (L : Layout) (r : Record) (log : List Placed) (l : Lengths) (t : Terms) (k : Key) (c : Refusal) →
+-- 02, R-4 and R-13: a delete meets 12 only where what its victim keeps, rewritten, does not fit the new head.
+pub delete-full-only : (L : Layout) (r : Record) (log : List Placed) (l : Lengths) (t : Terms) (k : Key) →
+    keptTooLong r (forgetLength (newLayout r) r log k) ≡ false → (c : Refusal) →
     firstCause (startCauses L r log l t (delete k)) ≡ some c → eqb (numberOfRefusal c) 12 ≡ false
 unfolding startCauses
-delete-never-full L r log l t k c e = never-met 12 (deleteCauses L r l t k (keyFacts log k)) (refl, (refl, (refl, (refl, (refl, (refl, (refl, (refl, tt)))))))) c e
+delete-full-only L r log l t k fits c e =
+    never-met 12 (before ++ after) (refl, (refl, (refl, (refl, (refl, (refl, (refl, (refl, tt)))))))) c
+    (sym (cause-passed before (when (forgetTooLong L r n) NoRoom) after (both-false-right (noRoom L r (entrySize L 0)) (keptTooLong r n) fits)) ∙ e)
+  where
+    n : ℕ
+    n = forgetLength (newLayout r) r log k
+
+    before : List Cause
+    before =
+        when (recordBad L r l) BadRecord
+        ∷ when (outsideTables (t .tables) k) OutsideTables
+        ∷ when (workShort r l) WorkShort
+        ∷ when (isPending (r .pending)) Busy
+        ∷ when (keyFacts log k .forbidden) BadRecord
+        ∷ when (keyFacts log k .absent) Absent
+        ∷ when (versionsSpent r) VersionsSpent
+        ∷ []
+
+    after : List Cause
+    after = when (noNumber L r (entrySize L 0)) NumbersSpent ∷ []

@@ -1,6 +1,6 @@
 -- The head search: the enum for a head, and what a turn of each loop adds.
 use Prim.Native.Nat.{ℕ, zero, suc, _+_, _≤_, _<_}
-use mathlib.Core.Path.{_≡_, refl, sym, _∙_, ap, subst}
+use mathlib.Core.Path.{_≡_, refl, sym, _∙_, ap, ap₂, subst}
 use mathlib.Core.Bool.{Bool, true, false, not}
 use mathlib.Core.List.{List}
 use mathlib.Core.Option.{Option, none, some}
@@ -8,13 +8,13 @@ use native.Mathlib.Numerals.{add-one}
 use native.Mathlib.Omega.{arith}
 use lib.Dec.{eqb, ltb}
 use borrow.Author.Tests.{lt-ltb, le-ltb, eq-eqb, ne-eqb, eqb-true, eqb-false}
-use Rattle.segment.specs.Choice.{pick-true, pick-false, both, both-true, both-false-left, both-false-right, either-false, either-true-left, either-true-right, isNone}
+use Rattle.segment.specs.Choice.{pick-true, pick-false, both, both-true, both-false-left, both-false-right, either, either-false, either-true-left, either-true-right, isNone}
 use Rattle.segment.specs.Layout.{Layout, edition1, edition2, sameLayout}
 use Rattle.segment.specs.declared.Edition.the-variants.{First, Second}
 use Rattle.segment.specs.Digest.{layoutIn, digestOf, isDigest}
 use Rattle.segment.specs.declared.Digest.{Digest}
 use Rattle.model.specs.Log.{View, Head, segmentOf, viewsOf, headOf, newer, digestIn}
-use Rattle.model.specs.Recovery.{hasNumber, sharing, namesNoDigest, otherEdition}
+use Rattle.model.specs.Recovery.{hasNumber, sharing, namesNoDigest, otherEdition, later, laterEdition}
 use Rattle.log.specs.declared.HeadFound.{HeadFound}
 use Rattle.log.specs.declared.HeadFound.the-variants.{Nothing, At}
 use Rattle.laws.specs.HeadLaws.{number-le}
@@ -207,3 +207,35 @@ module _ (L : Layout) (v : ℕ → View) (p : ℕ → Bool) (i : ℕ) where
       (stays (otherEdition L v p) (λ m. either-true-left (otherEdition L v p m) (both (p m) (not (sameLayout (v m .layout) L)))) (suc i) n h
       (either-true-right (otherEdition L v p i) (both (p i) (not (sameLayout (v i .layout) L)))
       (both-true (p i) (not (sameLayout (v i .layout) L)) q (ap not (sym is ∙ other)))))
+
+-- ---- whether the map names a slot of a later edition (02, R-13)
+
+module _ (v : ℕ → View) (p : ℕ → Bool) where
+  first-others : (n : ℕ) → otherEdition edition1 v p n ≡ laterEdition edition1 v p n
+  unfolding otherEdition laterEdition
+  first-others zero = refl
+  first-others (suc n) = ap₂ (λ (a b : Bool). either a (both (p n) b)) (first-others n) (any-other (v n .layout))
+    where
+      any-other : (K : Layout) → not (sameLayout K edition1) ≡ later K edition1
+      any-other First = unfold both sameLayout in refl
+      any-other Second = unfold both sameLayout in refl
+
+  second-last : (n : ℕ) → laterEdition edition2 v p n ≡ false
+  unfolding laterEdition
+  second-last zero = refl
+  second-last (suc n) =
+      either-false (laterEdition edition2 v p n) (both (p n) (later (v n .layout) edition2)) (second-last n)
+      (both-false-right (p n) (later (v n .layout) edition2) (none-later (v n .layout)))
+    where
+      none-later : (K : Layout) → later K edition2 ≡ false
+      none-later First = unfold both sameLayout in refl
+      none-later Second = unfold both sameLayout in refl
+
+  -- after the first edition comes any other,
+  pub after-first : (L : Layout) (n : ℕ) {t : Bool} → L ≡ edition1 → t ≡ otherEdition L v p n → t ≡ laterEdition L v p n
+  after-first L n is e =
+      e ∙ subst (λ (K : Layout). otherEdition K v p n ≡ laterEdition K v p n) (sym is) (first-others n)
+
+  -- and after the second comes none
+  pub after-second : (L : Layout) (n : ℕ) → L ≡ edition2 → false ≡ laterEdition L v p n
+  after-second L n is = sym (ap (λ (K : Layout). laterEdition K v p n) is ∙ second-last n)

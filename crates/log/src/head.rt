@@ -14,7 +14,7 @@ ghost use lib.ListN.{length};
 ghost use Rattle.segment.specs.Layout.{edition1, edition2, sameLayout, digestSize};
 ghost use Rattle.slot_map.specs.Bit.{named};
 ghost use Rattle.model.specs.Log.{viewsOf, headOf, newer, digestIn};
-ghost use Rattle.model.specs.Recovery.{hasNumber, sharing, namesNoDigest, otherEdition};
+ghost use Rattle.model.specs.Recovery.{hasNumber, sharing, namesNoDigest, otherEdition, laterEdition};
 ghost use Rattle.log.specs.Shape.{Shape};
 ghost use Rattle.log.specs.Heads.{told, untold};
 
@@ -148,4 +148,15 @@ pub fn names_other_edition(edition: Edition, n: usize, s: usize, area: &[u8], ma
         }
     }
     false
+}
+
+// Whether the map names a slot of a later edition (02, R-13). None comes after the second; after the first comes any other.
+pub fn names_later_edition(edition: Edition, n: usize, s: usize, area: &[u8], map: u32) -> bool
+    requires { ⌜ Shape n s (now area) ⌝ }
+    ensures { λ r. ⌜ r ≡ laterEdition edition (viewsOf (now (area .entry)) s) (named map) n ⌝ }
+{
+    match edition {
+        Edition::First => names_other_edition(edition, n, s, area, map),
+        Edition::Second => false,
+    }
 }

@@ -1,5 +1,6 @@
 -- Areas of four slots of 256 bytes, written out slot by slot, and records, on which several tables of rows work.
 use Prim.Native.Nat.{ℕ, zero, suc}
+use mathlib.Core.Bool.{false}
 use mathlib.Core.List.{List, [], _∷_, _++_}
 use lib.ListN.{replicate}
 use Rattle.segment.specs.Entry.{Entry}
@@ -96,6 +97,7 @@ recordOf n s m end number map next keys p =
       size = s;
       cells = m;
       edition = edition1;
+      switched = false;
       head = 0;
       end = end;
       digest = record { 0 = number };

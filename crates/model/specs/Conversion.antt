@@ -19,7 +19,7 @@ use Rattle.record.specs.declared.Refusal.{Refusal}
 use Rattle.record.specs.declared.Refusal.the-variants.{Geometry, SlotTooLong, VersionTooWide}
 use Rattle.model.specs.Log.{View, Item, viewsOf, headOf, itemsOf}
 use Rattle.model.specs.Causes.{Cause, when, firstCause}
-use Rattle.model.specs.Recovery.{geometryBad, headElse, logSlots, imageLayout, imageCauses}
+use Rattle.model.specs.Recovery.{geometryBad, headElse, logSlots, imageLayout, otherEdition, imageCausesBy}
 use Rattle.model.specs.Operations.{allEncoded}
 use Rattle.model.specs.Promises.{areaUnless}
 
@@ -86,11 +86,12 @@ imageSlots n s source = logSlots (headElse (headOf (viewsOf source s) n))
 abbrev pub fitCauses : Layout → (ℕ → View) → (ℕ → Bool) → ℕ → ℕ → List Cause
 fitCauses K v p S n = when (slotTooLong K v p S n) SlotTooLong ∷ when (slotTooWide K v p n) VersionTooWide ∷ []
 
--- Conversion: 1 (either buffer), 16, 17, 24, 25, 28, 18, 19, 29, 30. The causes of the image are recovery's own.
+-- Conversion: 1 (either buffer), 16, 17, 24, 25, 28, 18, 19, 29, 30. The causes of the image are recovery's own, but for
+-- 28, which any log of both editions brings here.
 abbrev pub convertCauses : ℕ → ℕ → List ℕ → ℕ → List Cause
 convertCauses n s source targetLength =
     when (either (geometryBad n s (length source)) (geometryBad n s targetLength)) Geometry
-    ∷ (imageCauses (imageLayout n s source) (viewsOf source s) n (headOf (viewsOf source s) n) ++
+    ∷ (imageCausesBy (otherEdition (imageLayout n s source) (viewsOf source s) (imageSlots n s source) n) (viewsOf source s) n (headOf (viewsOf source s) n) ++
     fitCauses (targetLayout n s source) (viewsOf source s) (imageSlots n s source) s n)
 
 -- These are its numbers in order, whatever the areas hold.

@@ -51,10 +51,10 @@ rows =
     ∷ row 1104 (recovers (seg 2 1 1 [] ++ wide 1 2 1 [] ++ vacant ++ vacant)) (gives (record { head = 0; end = 13; digest = 2; map = 1; next = 1; keys = 0; left = 0 }))
     -- a number that both editions have is shared, also with a free slot
     ∷ row 1105 (map refuses ((seg 2 1 1 [] ++ wide 2 2 1 [] ++ vacant ++ vacant) ∷ (wide 2 1 1 [] ++ bare 2 ++ vacant ++ vacant) ∷ [])) (17 ∷ 17 ∷ [])
-    -- a log of both editions, under a head of either, and with damage behind it
-    ∷ row 1106 (map refuses ((seg 1 1 1 [] ++ wide 2 3 1 [] ++ vacant ++ vacant) ∷ (wide 1 1 1 [] ++ seg 2 3 1 [] ++ vacant ++ vacant) ∷ (foreign 1 1 1 1 ++ seg 2 3 1 [] ++ vacant ++ vacant) ∷ [])) (28 ∷ 28 ∷ 28 ∷ [])
+    -- a slot of the first edition under a head of the second (R-13), one of the second under a head of the first, and with damage in it
+    ∷ row 1106 (map refuses ((seg 1 1 1 [] ++ wide 2 3 1 [] ++ vacant ++ vacant) ∷ (wide 1 1 1 [] ++ seg 2 3 1 [] ++ vacant ++ vacant) ∷ (foreign 1 1 1 1 ++ seg 2 3 1 [] ++ vacant ++ vacant) ∷ [])) (0 ∷ 28 ∷ 28 ∷ [])
     -- 25 before it
-    ∷ row 1106 (refuses (seg 1 1 1 [] ++ wide 2 7 1 [] ++ vacant ++ vacant) ∷ []) (25 ∷ [])
+    ∷ row 1106 (refuses (wide 1 1 1 [] ++ seg 2 7 1 [] ++ vacant ++ vacant) ∷ []) (25 ∷ [])
     -- kinds of edition 1 in a segment of edition 2 are damage, and the other way round
     ∷ row 1107 (map (λ k. refuses (foreign 2 1 1 k ++ vacant ++ vacant ++ vacant)) (1 ∷ 2 ∷ 3 ∷ 4 ∷ 5 ∷ 7 ∷ 8 ∷ 14 ∷ [])) (replicate 8 18)
     ∷ row 1107 (map (λ k. refuses (slotWith 255 (segmentIn edition1 2 1 1 [] ++ k ∷ replicate 140 1) ++ vacant ++ vacant ++ vacant)) (8 ∷ 9 ∷ 12 ∷ 13 ∷ [])) (replicate 4 18)

@@ -1,6 +1,7 @@
 -- Cases for the slot with the fewest present bytes (02, R-5). What each row computes: the refusal's number, and the slot that is told.
 use Prim.Native.Nat.{ℕ}
 use mathlib.Core.Path.{_≡_, refl}
+use mathlib.Core.Bool.{false}
 use mathlib.Core.List.{List, [], _∷_, _++_, map}
 use lib.ListN.{replicate}
 use Rattle.segment.specs.Layout.{edition1}
@@ -21,6 +22,7 @@ counted map few p =
       size = 256;
       cells = 16;
       edition = edition1;
+      switched = false;
       head = 1;
       end = 13;
       digest = record { 0 = 1 };

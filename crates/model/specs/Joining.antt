@@ -9,6 +9,7 @@ use Rattle.segment.specs.Choice.{pick, both, isNone}
 use Rattle.segment.specs.Layout.{Layout}
 use Rattle.slot_map.specs.Bit.{named}
 use Rattle.record.specs.Pairs.{PairSaid, noneSaid, joinSaid}
+use Rattle.record.specs.Switch.{newLayout}
 use Rattle.record.specs.Refusals.{numberOfRefusal}
 use Rattle.record.specs.declared.Joined.{Joined}
 use Rattle.record.specs.declared.JoinAnswer.{JoinAnswer}
@@ -29,8 +30,8 @@ pairOf i j = 2 ^ i + 2 ^ j
 
 -- Both are slots of the log, and what a cleaning of exactly these two keeps fits one new head, by 14's own test. The head may be one
 -- of them.
-unfoldable pub joinFits : Layout → Record → List Placed → ℕ → ℕ → Bool
-joinFits L r log i j = both (both (named (r .map) i) (named (r .map) j)) (not (keptTooLong L r (keptLength L log (pairOf i j))))
+unfoldable pub joinFits : Record → List Placed → ℕ → ℕ → Bool
+joinFits r log i j = both (both (named (r .map) i) (named (r .map) j)) (not (keptTooLong r (keptLength (newLayout r) log (pairOf i j))))
 
 -- the first of two that is there
 unfoldable pub orElse : {A : Type 0} → Option A → Option A → Option A
@@ -64,8 +65,8 @@ abbrev pub lowestPair : (ℕ → ℕ → Bool) → ℕ → Option SlotPair
 lowestPair fits n = firstOf (λ i. pairWith i (partnerOf fits n i)) n
 
 -- The lowest pair of log slots that one new head can take over.
-abbrev pub joinPair : Layout → Record → List Placed → Option SlotPair
-joinPair L r log = lowestPair (joinFits L r log) (r .slots)
+abbrev pub joinPair : Record → List Placed → Option SlotPair
+joinPair r log = lowestPair (joinFits r log) (r .slots)
 
 -- ---- the causes, in 02's order: 4, 5, 23. The digest number plays no part.
 
@@ -103,7 +104,7 @@ pub record JoinPromise (L : Layout) (r : Record) (area cells : List ℕ) (a : Jo
   pub early : (c : Refusal) → firstCause (joinEarly L r (readLengths area cells)) ≡ some c → a .answer ≡ JoinAnswer.Refused c
   pub exact :
       Genuine L area r cells → a .answer ≡
-      joinAnswer (firstCause (joinCauses L r (readLengths area cells) (joinPair L r (logNow area r)))) (joinPair L r (logNow area r))
+      joinAnswer (firstCause (joinCauses L r (readLengths area cells) (joinPair r (logNow area r)))) (joinPair r (logNow area r))
   pub says :
       Settled L area r cells (joinEarly L r (readLengths area cells)) → joinSaid (a .answer) ≡
-      pairSaidBy (firstCause (joinCauses L r (readLengths area cells) (joinPair L r (logNow area r)))) (joinPair L r (logNow area r))
+      pairSaidBy (firstCause (joinCauses L r (readLengths area cells) (joinPair r (logNow area r)))) (joinPair r (logNow area r))

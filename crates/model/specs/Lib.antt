@@ -27,3 +27,5 @@ pub mod EditionCases
 pub mod Joining
 pub mod Conversion
 pub mod ConversionCases
+pub mod Switching
+pub mod SwitchCases

@@ -7,7 +7,7 @@ use lib.Dec.{eqb, ltb, leb}
 use lib.ListN.{length, getD, drop, set}
 use Rattle.word.specs.Number.{Bytes}
 use Rattle.segment.specs.Choice.{pick, both, either}
-use Rattle.segment.specs.Layout.{Layout, entrySize, digestSize}
+use Rattle.segment.specs.Layout.{Layout, entrySize, digestSize, versionLimit}
 use Rattle.segment.specs.Entry.{Entry, isTombstone, encoded, sizeOf, keyOf}
 use Rattle.segment.specs.Digest.{encodedDigest}
 use Rattle.segment.specs.declared.Digest.{Digest}
@@ -18,6 +18,7 @@ use Rattle.slot_map.specs.Count.{free}
 use Rattle.slot_map.specs.Next.{nextFree}
 use Rattle.record.specs.Answers.{withPending}
 use Rattle.record.specs.Committed.{committed}
+use Rattle.record.specs.Switch.{newLayout}
 use Rattle.record.specs.declared.Commit.{Commit}
 use Rattle.record.specs.declared.Pending.{Pending}
 use Rattle.record.specs.declared.Pending.the-variants.{Idle, Append, NewHead, Clean, Forget}
@@ -54,13 +55,17 @@ writtenEntry r k value = record { table = k .table; key = k .key; version = r .n
 abbrev pub tombstoneEntry : Record → Key → Entry
 tombstoneEntry r k = record { table = k .table; key = k .key; version = r .next .0; value = none }
 
--- The entry fits the head: it may end exactly at S.
+-- An entry of n bytes fits the head: it may end exactly at S, and the versions of the head's edition last (02, R-13: past them an entry
+-- counts as not fitting).
+abbrev pub fitsWith : Layout → Record → ℕ → Bool
+fitsWith L r n = both (leb (r .end + n) (r .size)) (ltb (r .next .0) (versionLimit L))
+
 abbrev pub fitsHead : Layout → Record → Entry → Bool
-fitsHead L r e = leb (r .end + sizeOf L e) (r .size)
+fitsHead L r e = fitsWith L r (sizeOf L e)
 
 -- An entry of n bytes finds no room: it does not fit the head, and fewer than two slots are free.
-abbrev pub noRoom : Record → ℕ → Bool
-noRoom r n = both (not (leb (r .end + n) (r .size))) (ltb (free (r .slots) (r .map)) 2)
+abbrev pub noRoom : Layout → Record → ℕ → Bool
+noRoom L r n = both (not (fitsWith L r n)) (ltb (free (r .slots) (r .map)) 2)
 
 -- The slot of a new head: from the old head upwards, and from slot 0 on again, the first that is free.
 abbrev pub newSlot : Record → ℕ
@@ -126,9 +131,10 @@ laidHead L r e =
       bytes = encodedDigest L (newDigest r 0) ++ encoded L e;
     }
 
--- An entry is appended to the head if it fits, else it comes to a new head.
+-- An entry is appended to the head if it fits, else it comes to a new head. L is the head's edition; a new head is of the edition that
+-- the record has for new heads (02, R-13), and so is all that stands in it.
 abbrev pub laidEntry : Layout → Record → Entry → Laid
-laidEntry L r e = pick (fitsHead L r e) (laidAppend L e) (laidHead L r e)
+laidEntry L r e = pick (fitsHead L r e) (laidAppend L e) (laidHead (newLayout r) r e)
 
 abbrev pub laidClean : Layout → Record → List Placed → ℕ → Laid
 laidClean L r log victims =
@@ -180,12 +186,12 @@ laidForget L r log k =
 
 -- A delete goes that way if its tombstone finds no room.
 abbrev pub laidDelete : Layout → Record → List Placed → Key → Laid
-laidDelete L r log k = pick (noRoom r (entrySize L 0)) (laidForget L r log k) (laidEntry L r (tombstoneEntry r k))
+laidDelete L r log k = pick (noRoom L r (entrySize L 0)) (laidForget (newLayout r) r log k) (laidEntry L r (tombstoneEntry r k))
 
 unfoldable pub laid : Layout → Record → List Placed → Operation → Laid
 laid L r log (write k value) = laidEntry L r (writtenEntry r k value)
 laid L r log (delete k) = laidDelete L r log k
-laid L r log (clean victims) = laidClean L r log victims
+laid L r log (clean victims) = laidClean (newLayout r) r log victims
 
 -- ---- the stores, in order: each is a place in the area and a byte
 
@@ -249,11 +255,12 @@ placedFrom L i at (e ∷ es) = record { slot = i; layout = L; offset = at; entry
 -- What the last store makes of the head and the counters: n more bytes in the head, and the next version is taken.
 abbrev pub appendCommit : Record → ℕ → Commit
 appendCommit r n =
-    record { head = r .head; end = r .end + n; digest = r .digest; map = r .map; next = nextAfter r }
+    record { edition = r .edition; head = r .head; end = r .end + n; digest = r .digest; map = r .map; next = nextAfter r }
 
--- A new head of n bytes in a slot, with this map and this next version; the digest number is one higher.
-abbrev pub headCommit : Record → ℕ → ℕ → ℕ → Version → Commit
-headCommit r slot n map next = record { head = slot; end = n; digest = record { 0 = r .digest .0 + 1 }; map = map; next = next }
+-- A new head of an edition with n bytes in a slot, with this map and this next version; the digest number is one higher.
+abbrev pub headCommit : Layout → Record → ℕ → ℕ → ℕ → Version → Commit
+headCommit L r slot n map next =
+    record { edition = L; head = slot; end = n; digest = record { 0 = r .digest .0 + 1 }; map = map; next = next }
 
 -- the record once an entry is at the head's end, or in a new head
 abbrev pub appendedRecord : Layout → Record → List Placed → Entry → Record
@@ -262,11 +269,11 @@ appendedRecord L r log e =
 
 abbrev pub headedRecord : Layout → Record → List Placed → Entry → Record
 headedRecord L r log e =
-    committed r (headCommit r (newSlot r) (digestSize L + sizeOf L e) (newDigest r 0 .map) (nextAfter r))
+    committed r (headCommit L r (newSlot r) (digestSize L + sizeOf L e) (newDigest r 0 .map) (nextAfter r))
     (r .keys + countNew log (keyOf e)) (entryCounts L log (newSlot r) e (r .counts))
 
 abbrev pub entryRecord : Layout → Record → List Placed → Entry → Record
-entryRecord L r log e = pick (fitsHead L r e) (appendedRecord L r log e) (headedRecord L r log e)
+entryRecord L r log e = pick (fitsHead L r e) (appendedRecord L r log e) (headedRecord (newLayout r) r log e)
 
 -- The log that a cleaning leaves, but for the order of its slots: what stands outside the victims, and the entries kept.
 abbrev pub renewedLog : Layout → List ℕ → Record → ℕ → List Entry → List Placed
@@ -275,7 +282,7 @@ renewedLog L area r victims es =
 
 abbrev pub renewedRecord : Layout → List ℕ → Record → ℕ → List Entry → Version → Record
 renewedRecord L area r victims es next =
-    committed r (headCommit r (newSlot r) (digestSize L + length (allEncoded L es)) (newDigest r victims .map) next)
+    committed r (headCommit L r (newSlot r) (digestSize L + length (allEncoded L es)) (newDigest r victims .map) next)
     (length (keysOf (renewedLog L area r victims es))) (renewedCounts L victims (newSlot r) es (r .counts))
 
 -- A cleaning keeps the next version; a delete that cleans has taken it.
@@ -288,13 +295,13 @@ forgottenRecord L area r k =
 
 abbrev pub deletedRecord : Layout → List ℕ → Record → Key → Record
 deletedRecord L area r k =
-    pick (noRoom r (entrySize L 0)) (forgottenRecord L area r k) (entryRecord L r (logNow area r) (tombstoneEntry r k))
+    pick (noRoom L r (entrySize L 0)) (forgottenRecord (newLayout r) area r k) (entryRecord L r (logNow area r) (tombstoneEntry r k))
 
 -- The record after the last step of an operation that was started on this area and record.
 unfoldable pub finishedRecord : Layout → List ℕ → Record → Operation → Record
 finishedRecord L area r (write k value) = entryRecord L r (logNow area r) (writtenEntry r k value)
 finishedRecord L area r (delete k) = deletedRecord L area r k
-finishedRecord L area r (clean victims) = cleanedRecord L area r victims
+finishedRecord L area r (clean victims) = cleanedRecord (newLayout r) area r victims
 
 -- ---- format
 

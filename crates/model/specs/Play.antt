@@ -23,7 +23,7 @@ use Rattle.record.specs.Reach.{holdsTable, allTables}
 use Rattle.model.specs.Log.{Placed, itemFirst, scanFrom, itemsOf, endOf, isDamaged, digestIn, newer, headOf, placedIn, logOf, sameKeys, sameKey, laterOf, latest, objectOnly, present, isVersion, hasKey, keysOf, hasVersion, versionShared, highest}
 use Rattle.model.specs.Counts.{tally, objectBytes, withoutLive, withoutVictims}
 use Rattle.model.specs.Causes.{Cause, firstCause}
-use Rattle.model.specs.Recovery.{lists, listsBelow, headElse, hasNumber, sharing, namesNoDigest, logDamaged, recoverCauses, recoveryFor, recovery, recordFrom, otherEdition, imageLayout}
+use Rattle.model.specs.Recovery.{lists, listsBelow, headElse, hasNumber, sharing, namesNoDigest, logDamaged, recoverCauses, recoveryFor, recovery, recordFrom, laterEdition, otherEdition, imageLayout}
 use Rattle.model.specs.Operations.{Operation, logNow, objectOutside, keptOf, kept, allEncoded, replaced, replacedBy, slotOf, laid, storesFrom, planOf, planFor, storesFor, stored, toldVersion, countNew, placedFrom, finishedRecord, cleared, formatted, formattedAs}
 use Rattle.model.specs.Refused.{Lengths, Terms, freely, versionIn, expectsOther, isPending, readCauses, startCauses}
 use Rattle.model.specs.Promises.{presentAnswer, readAnswer, partOf, valuePart, valueAnswer, Begun, begun, stepped}
@@ -35,7 +35,7 @@ unfolding numberOf bytesOf pick both either isNone orZero table sameLayout layou
     holdsTable bit used slotAfter freeFrom nextFree between mapGood leftGood countsGood inRange lengthsOwn fitsLent
     itemFirst scanFrom itemsOf endOf isDamaged digestIn newer headOf placedIn logOf sameKeys sameKey laterOf latest objectOnly present isVersion hasKey keysOf hasVersion versionShared highest
     tally objectBytes withoutLive withoutVictims
-    firstCause lists listsBelow headElse hasNumber sharing namesNoDigest otherEdition logDamaged recoveryFor recovery
+    firstCause lists listsBelow headElse hasNumber sharing namesNoDigest laterEdition otherEdition logDamaged recoveryFor recovery
     objectOutside keptOf allEncoded replaced replacedBy slotOf laid storesFrom planOf stored toldVersion countNew placedFrom finishedRecord cleared formattedAs
     versionIn expectsOther isPending startCauses presentAnswer readAnswer valuePart valueAnswer begun stepped same failing
 opened = tt

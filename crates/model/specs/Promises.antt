@@ -15,7 +15,7 @@ use Rattle.segment.specs.Layout.{Layout, layoutNumbered, entrySize}
 use Rattle.segment.specs.Entry.{bytesIn}
 use Rattle.segment.specs.declared.Key.{Key}
 use Rattle.record.specs.Answers.{Said, taken, takenWith, refusal, saidBy, formatSaid, recoverSaid, readSaid, startSaid, stepSaid, tellSaid, withPending}
-use Rattle.record.specs.declared.Pending.the-variants.{Idle}
+use Rattle.record.specs.Switch.{unswitched, asRecovered}
 use Rattle.record.specs.declared.Refusal.{Refusal}
 use Rattle.record.specs.Refusals.{numberOfRefusal}
 use Rattle.record.specs.declared.Record.{Record}
@@ -43,9 +43,9 @@ use Rattle.model.specs.Refused.{Lengths, Terms, freely, formatCauses, re
 
 -- ---- the stores on which a call promises its whole answer
 
--- The record, its pending operation aside, is what recovery of this area gives, and the index keeps its rule.
+-- The record, its pending operation and its switch aside (02, R-13), is what recovery of this area gives, and the index keeps its rule.
 pub record Genuine (L : Layout) (area : List ℕ) (r : Record) (cells : List ℕ) : Type 0 where
-  pub recovers : recovered L (r .slots) (r .size) (r .cells) area ≡ some (withPending r Idle)
+  pub recovers : recovered L (r .slots) (r .size) (r .cells) area ≡ some (asRecovered r)
   pub rule : IndexRule (r .size) (logNow area r) cells
 
 -- The pending operation is one that was started on this store, and steps alone were made since: `idle` was the record and `before` the
@@ -59,7 +59,7 @@ pub record Started (L : Layout) (area : List ℕ) (r : Record) (work : List ℕ)
   pub lengths : Lengths
   pub typed : Typed operation
   pub area-bytes : Bytes before
-  pub recovers : recovered L (idle .slots) (idle .size) (idle .cells) before ≡ some idle
+  pub recovers : recovered L (idle .slots) (idle .size) (idle .cells) before ≡ some (unswitched idle)
   pub accepted : firstCause (startCauses L idle (logNow before idle) lengths freely operation) ≡ none
   pub some-left : since < storesFor L idle (logNow before idle) operation
   pub record-now :

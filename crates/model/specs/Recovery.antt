@@ -1,5 +1,5 @@
 -- 01, "The log and its map" and "Refused calls": what recovery gives for an image, and the causes 1, 2 and 15 to 20, with 24 and 25
--- of 02, R-8, and 28 of R-11. The layout in these definitions is that of the store, which is its head's.
+-- of 02, R-8, and 28 of R-11 and R-13. The layout in these definitions is that of the store, which is its head's.
 use Prim.Native.Nat.{ℕ, zero, suc, _+_, _*_, _-_}
 use mathlib.Core.Bool.{Bool, true, false, not}
 use mathlib.Core.List.{List, [], _∷_, _++_}
@@ -7,7 +7,7 @@ use mathlib.Core.Option.{Option, none, some}
 use lib.Dec.{eqb, ltb}
 use lib.ListN.{length}
 use Rattle.segment.specs.Choice.{pick, both, either, isNone}
-use Rattle.segment.specs.Layout.{Layout, sameLayout}
+use Rattle.segment.specs.Layout.{Layout, edition1, edition2, sameLayout}
 use Rattle.segment.specs.declared.Digest.{Digest}
 use Rattle.slot_map.specs.Bit.{named}
 use Rattle.record.specs.Answers.{blank}
@@ -73,8 +73,17 @@ unfoldable pub namesNoDigest : (ℕ → View) → (ℕ → Bool) → ℕ → Boo
 namesNoDigest v p zero = false
 namesNoDigest v p (suc n) = either (namesNoDigest v p n) (both (p n) (isNone (v n .digest)))
 
--- 28 (02, R-11): a slot of the log is not of the store's edition. The head is in its log, so there are log slots of both editions
--- exactly if one is not of the head's.
+-- an edition comes later than another
+abbrev pub later : Layout → Layout → Bool
+later K L = both (sameLayout K edition2) (sameLayout L edition1)
+
+-- 28 (02, R-13): a slot of the log is of a later edition than the head, which is of layout L. Slots of the earlier one may stand under a
+-- head of the second.
+unfoldable pub laterEdition : Layout → (ℕ → View) → (ℕ → Bool) → ℕ → Bool
+laterEdition L v p zero = false
+laterEdition L v p (suc n) = either (laterEdition L v p n) (both (p n) (later (v n .layout) L))
+
+-- 28 as it was before (R-11), which the conversion of images keeps: a slot of the log is not of the head's edition.
 unfoldable pub otherEdition : Layout → (ℕ → View) → (ℕ → Bool) → ℕ → Bool
 otherEdition L v p zero = false
 otherEdition L v p (suc n) = either (otherEdition L v p n) (both (p n) (not (sameLayout (v n .layout) L)))
@@ -107,6 +116,7 @@ recordUnder L v n s m h =
       size = s;
       cells = m;
       edition = L;
+      switched = false;
       head = h .slot;
       end = endOf (v (h .slot) .scan);
       digest = h .digest .number;
@@ -122,14 +132,17 @@ abbrev pub digestCauses : (ℕ → View) → ℕ → Head → List Cause
 digestCauses v n h =
     when (digestBad v n h) BadDigest ∷ when (mapBad n h) BadMap ∷ when (namesNoDigest v (logSlots h) n) MapNoDigest ∷ []
 
--- 16, 17, 24, 25, 28, 18 and 19, which look at the image alone
-abbrev pub imageCauses : Layout → (ℕ → View) → ℕ → Option Head → List Cause
-imageCauses L v n h =
+-- 16, 17, 24, 25, 28, 18 and 19, which look at the image alone, by whether the editions of the log's slots bring 28
+abbrev pub imageCausesBy : Bool → (ℕ → View) → ℕ → Option Head → List Cause
+imageCausesBy mixed v n h =
     when (isNone h) NoDigest
     ∷ (digestCauses v n (headElse h) ++
-    (when (otherEdition L v (logSlots (headElse h)) n) MixedEditions
+    (when mixed MixedEditions
     ∷ when (logDamaged v (logSlots (headElse h)) n) DamagedLog
     ∷ when (versionShared (logUnder v n (headElse h))) SharedVersion ∷ []))
+
+abbrev pub imageCauses : Layout → (ℕ → View) → ℕ → Option Head → List Cause
+imageCauses L v n h = imageCausesBy (laterEdition L v (logSlots (headElse h)) n) v n h
 
 abbrev pub keyCauses : (ℕ → View) → ℕ → ℕ → Option Head → List Cause
 keyCauses v n m h = when (keysBad m (logUnder v n (headElse h))) TooManyKeys ∷ []
@@ -158,8 +171,10 @@ ifNone (some c) r = none
 abbrev pub recordFrom : Layout → ℕ → ℕ → ℕ → List ℕ → Record
 recordFrom L n s m area = recordUnder L (viewsOf area s) n s m (headElse (headOf (viewsOf area s) n))
 
+-- L is the edition of its head.
 unfoldable pub recovered : Layout → ℕ → ℕ → ℕ → List ℕ → Option Record
-recovered L n s m area = ifNone (firstCause (areaCauses L n s m area)) (recordFrom L n s m area)
+recovered L n s m area =
+    pick (sameLayout (imageLayout n s area) L) (ifNone (firstCause (areaCauses L n s m area)) (recordFrom L n s m area)) none
 
 -- What the call answers: the record, or the first cause beside the blank record.
 unfoldable pub recoveryFor : Option Refusal → Record → Recovery

@@ -4,13 +4,14 @@ use Prim.Native.Nat.{ℕ, _+_, _-_}
 use mathlib.Core.Bool.{Bool, true, false, not}
 use mathlib.Core.List.{List, [], _∷_}
 use mathlib.Core.Option.{Option, none, some}
-use lib.Dec.{eqb, ltb, leb}
+use lib.Dec.{eqb, ltb}
 use lib.ListN.{length}
 use Rattle.segment.specs.Choice.{both, either, isNone}
 use Rattle.segment.specs.Layout.{Layout, layoutNumbered, objectKind, entrySize, digestSize, versionLimit, numberLimit}
 use Rattle.segment.specs.declared.Key.{Key}
 use Rattle.slot_map.specs.Bit.{within}
 use Rattle.record.specs.Range.{fitsLent}
+use Rattle.record.specs.Switch.{newLayout}
 use Rattle.record.specs.declared.Pending.{Pending}
 use Rattle.record.specs.declared.Pending.the-variants.{Idle, Append, NewHead, Clean, Forget}
 use Rattle.record.specs.declared.Refusal.the-variants.{WorkShort, BadRecord, Busy, NonePending, ValueLength, Absent, VersionsSpent, NumbersSpent, KeysFull, NoRoom, BadVictims, KeptTooLong, Geometry, OtherVersion, OutsideTables}
@@ -22,7 +23,7 @@ use Rattle.record.specs.declared.Expected.the-variants.{Any, Only}
 use Rattle.model.specs.Log.{Placed, hasKey, present}
 use Rattle.model.specs.Causes.{Cause, when}
 use Rattle.model.specs.Recovery.{geometryBad}
-use Rattle.model.specs.Operations.{Operation, write, delete, clean, kept, allEncoded}
+use Rattle.model.specs.Operations.{Operation, write, delete, clean, kept, allEncoded, forgetKept, fitsWith}
 pub use Rattle.model.specs.Operations.{noRoom}
 
 -- The lengths of what a call is lent.
@@ -95,9 +96,9 @@ expectsOther (Only e) v = not (eqb (e .0) v)
 abbrev pub outsideTables : Tables → Key → Bool
 outsideTables t k = not (holdsTable t (k .table))
 
--- 9
-abbrev pub versionsSpent : Layout → Record → Bool
-versionsSpent L r = eqb (r .next .0) (versionLimit L)
+-- 9, by the limit of the edition that new heads have (02, R-13)
+abbrev pub versionsSpent : Record → Bool
+versionsSpent r = eqb (r .next .0) (versionLimit (newLayout r))
 
 -- 10
 abbrev pub numbersSpent : Record → Bool
@@ -107,17 +108,17 @@ numbersSpent r = eqb (r .digest .0) numberLimit
 abbrev pub keysFull : Record → KeyFacts → Bool
 keysFull r k = both (not (k .in-log)) (eqb (r .keys) (r .cells - 1))
 
--- 12 is `noRoom`; 10 where a new head is needed, for an entry of n bytes, which may end exactly at S
-abbrev pub noNumber : Record → ℕ → Bool
-noNumber r n = both (not (leb (r .end + n) (r .size))) (numbersSpent r)
+-- 12 is `noRoom`; 10 where a new head is needed, for an entry of n bytes
+abbrev pub noNumber : Layout → Record → ℕ → Bool
+noNumber L r n = both (not (fitsWith L r n)) (numbersSpent r)
 
 -- 13
 abbrev pub victimsBad : Record → ℕ → Bool
 victimsBad r victims = either (eqb victims 0) (not (within victims (r .map)))
 
--- 14, for n bytes kept
-abbrev pub keptTooLong : Layout → Record → ℕ → Bool
-keptTooLong L r n = ltb (r .size) (digestSize L + n)
+-- 14, for n bytes kept, behind the digest of the new head
+abbrev pub keptTooLong : Record → ℕ → Bool
+keptTooLong r n = ltb (r .size) (digestSize (newLayout r) + n)
 
 -- ---- the list of each call: these are the only places where the order of its causes stands
 
@@ -141,23 +142,29 @@ writeCauses L r l t j k n =
     ∷ when (valueBad L n) ValueLength
     ∷ when (k .forbidden) BadRecord
     ∷ when (expectsOther (t .expected) (k .version)) OtherVersion
-    ∷ when (versionsSpent L r) VersionsSpent
+    ∷ when (versionsSpent r) VersionsSpent
     ∷ when (keysFull r k) KeysFull
-    ∷ when (noRoom r (entrySize L n)) NoRoom
-    ∷ when (noNumber r (entrySize L n)) NumbersSpent
+    ∷ when (noRoom L r (entrySize L n)) NoRoom
+    ∷ when (noNumber L r (entrySize L n)) NumbersSpent
     ∷ []
 
--- Delete: 4, 22, 3, 5, 8, 9, 10. Here 8 is the first to need what is known of key j.
-abbrev pub deleteCauses : Layout → Record → Lengths → Terms → Key → KeyFacts → List Cause
-deleteCauses L r l t j k =
+-- 12 of a delete (02, R-13): its tombstone finds no room, and the n bytes that the one victim keeps in the new head's edition do not fit
+-- behind the digest.
+abbrev pub forgetTooLong : Layout → Record → ℕ → Bool
+forgetTooLong L r n = both (noRoom L r (entrySize L 0)) (keptTooLong r n)
+
+-- Delete: 4, 22, 3, 5, 8, 9, 12, 10. Here 8 is the first to need what is known of key j.
+abbrev pub deleteCauses : Layout → Record → Lengths → Terms → Key → KeyFacts → ℕ → List Cause
+deleteCauses L r l t j k n =
     when (recordBad L r l) BadRecord
     ∷ when (outsideTables (t .tables) j) OutsideTables
     ∷ when (workShort r l) WorkShort
     ∷ when (isPending (r .pending)) Busy
     ∷ when (k .forbidden) BadRecord
     ∷ when (k .absent) Absent
-    ∷ when (versionsSpent L r) VersionsSpent
-    ∷ when (noNumber r (entrySize L 0)) NumbersSpent
+    ∷ when (versionsSpent r) VersionsSpent
+    ∷ when (forgetTooLong L r n) NoRoom
+    ∷ when (noNumber L r (entrySize L 0)) NumbersSpent
     ∷ []
 
 -- Clean: 4, 3, 5, 13, 14, 10, for n bytes kept.
@@ -167,19 +174,23 @@ cleanCauses L r l n victims =
     ∷ when (workShort r l) WorkShort
     ∷ when (isPending (r .pending)) Busy
     ∷ when (victimsBad r victims) BadVictims
-    ∷ when (keptTooLong L r n) KeptTooLong
+    ∷ when (keptTooLong r n) KeptTooLong
     ∷ when (numbersSpent r) NumbersSpent
     ∷ []
 
--- how many bytes a cleaning of the log keeps
+-- how many bytes a cleaning of the log keeps, in the new head's edition
 abbrev pub keptLength : Layout → List Placed → ℕ → ℕ
 keptLength L log victims = length (allEncoded L (kept victims log))
+
+-- and how many a delete that cleans, the tombstone among them where one stands
+abbrev pub forgetLength : Layout → Record → List Placed → Key → ℕ
+forgetLength L r log k = length (allEncoded L (forgetKept r log k))
 
 -- The causes of a start, with what the log says.
 unfoldable pub startCauses : Layout → Record → List Placed → Lengths → Terms → Operation → List Cause
 startCauses L r log l t (write k value) = writeCauses L r l t k (keyFacts log k) (length value)
-startCauses L r log l t (delete k) = deleteCauses L r l t k (keyFacts log k)
-startCauses L r log l t (clean victims) = cleanCauses L r l (keptLength L log victims) victims
+startCauses L r log l t (delete k) = deleteCauses L r l t k (keyFacts log k) (forgetLength (newLayout r) r log k)
+startCauses L r log l t (clean victims) = cleanCauses L r l (keptLength (newLayout r) log victims) victims
 
 -- What is tested before any look at area and index, by the arguments, the record and the lengths alone: 4, and 22 by a call that
 -- names a key.

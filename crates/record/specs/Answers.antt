@@ -1,5 +1,6 @@
 -- What each answer says in 01's terms: the refusal's number, or the values that the call gives. 0 is no refusal's number.
 use Prim.Native.Nat.{ℕ}
+use mathlib.Core.Bool.{Bool, false}
 use mathlib.Core.List.{List, [], _∷_}
 use mathlib.Core.Option.{Option, none, some}
 use lib.ListN.{replicate}
@@ -106,6 +107,7 @@ withPending r p =
       size = r .size;
       cells = r .cells;
       edition = r .edition;
+      switched = r .switched;
       head = r .head;
       end = r .end;
       digest = r .digest;
@@ -124,6 +126,7 @@ bare r =
       size = r .size;
       cells = r .cells;
       edition = r .edition;
+      switched = r .switched;
       head = r .head;
       end = r .end;
       digest = r .digest;
@@ -142,6 +145,7 @@ blank =
       size = 0;
       cells = 0;
       edition = edition1;
+      switched = false;
       head = 0;
       end = 0;
       digest = record { 0 = 0 };

@@ -3,6 +3,7 @@ pub mod Refusals
 pub mod Answers
 pub mod Committed
 pub mod Range
+pub mod Switch
 pub mod RangeLaws
 pub mod Reach
 pub mod Pairs

@@ -5,7 +5,7 @@ use mathlib.Core.Bool.{Bool, true, false, not}
 use mathlib.Core.List.{List, [], _∷_}
 use lib.Dec.{eqb, ltb, leb}
 use Rattle.segment.specs.Choice.{both}
-use Rattle.segment.specs.Layout.{Layout, digestSize, versionLimit}
+use Rattle.segment.specs.Layout.{Layout, edition1, digestSize, versionLimit}
 use Rattle.slot_map.specs.Bit.{bit, named}
 use Rattle.slot_map.specs.Count.{used}
 use Rattle.record.specs.declared.Pending.{Pending}
@@ -49,12 +49,17 @@ unfoldable pub countsGood : ℕ → List ℕ → Bool
 countsGood m [] = true
 countsGood m (c ∷ cs) = both (leb c m) (countsGood m cs)
 
+-- S - 13: the most that a segment has behind its digest, in any edition. A slot of the first edition may stand in the log of a store whose
+-- head is of the second (02, R-13).
+abbrev pub mostPresent : ℕ → ℕ
+mostPresent s = s - digestSize edition1
+
 -- a record whose numbers are all in range
 unfoldable pub inRange : Layout → Record → Bool
 inRange L r =
     both (both (both (slotsGood (r .slots)) (sizeGood (r .size))) (both (cellsGood (r .cells)) (mapGood (r .slots) (r .head) (r .map))))
     (both (both (between (digestSize L) (r .size) (r .end)) (both (not (eqb (r .digest .0) 0)) (nextGood L (r .next .0))))
-    (both (leb (r .keys) (r .cells - 1)) (both (countsGood (r .size - digestSize L) (r .counts)) (leftGood (r .size) (r .pending)))))
+    (both (leb (r .keys) (r .cells - 1)) (both (countsGood (mostPresent (r .size)) (r .counts)) (leftGood (r .size) (r .pending)))))
 
 -- the lent area and index are as long as the record says
 unfoldable pub lengthsOwn : Record → ℕ → ℕ → Bool

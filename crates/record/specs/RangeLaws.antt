@@ -18,7 +18,8 @@ use Rattle.slot_map.specs.BitLaws.{bit-above, named-true, clear-named}
 use Rattle.slot_map.specs.Count.{used, allSlots}
 use Rattle.slot_map.specs.CountLaws.{not-all, all-named}
 use Rattle.record.specs.Answers.{storesLeft, withPending, bare, blank}
-use Rattle.record.specs.Range.{between, slotsGood, sizeGood, cellsGood, mapGood, leftGood, nextGood, countsGood, inRange, lengthsOwn, fitsLent}
+use Rattle.record.specs.Range.{between, slotsGood, sizeGood, cellsGood, mapGood, leftGood, nextGood, countsGood, mostPresent, inRange, lengthsOwn, fitsLent}
+use Rattle.record.specs.Switch.{withSwitch, unswitched}
 use Rattle.record.specs.declared.Pending.{Pending}
 use Rattle.record.specs.declared.Pending.the-variants.{Idle, Append, NewHead, Clean, Forget}
 use Rattle.record.specs.declared.Record.{Record}
@@ -42,7 +43,7 @@ pub record Lent (L : Layout) (r : Record) (areaLength indexLength : ℕ) : Type 
   pub number-some : 0 < r .digest .0
   pub next-some : 0 < r .next .0
   pub keys-high : r .keys ≤ r .cells - 1
-  pub counts-high : countsGood (r .size - digestSize L) (r .counts) ≡ true
+  pub counts-high : countsGood (mostPresent (r .size)) (r .counts) ≡ true
   pub left-some : (r .pending ≡ Idle → ⊥) → 0 < storesLeft (r .pending)
   pub left-high : storesLeft (r .pending) ≤ r .size + 1
   pub area-own : areaLength ≡ r .slots * r .size
@@ -216,7 +217,7 @@ module _ {t x : Bool} (b : Bool) (e : t ≡ x) where
   goes f g = rw (← e, f) g
 
 pub in-parts : (L : Layout) (r : Record) → inRange L r
-    ≡ both (limitsGood r) (both (mapGood (r .slots) (r .head) (r .map)) (both (countersGood L r) (both (countsGood (r .size - digestSize L) (r .counts)) (leftGood (r .size) (r .pending)))))
+    ≡ both (limitsGood r) (both (mapGood (r .slots) (r .head) (r .map)) (both (countersGood L r) (both (countsGood (mostPresent (r .size)) (r .counts)) (leftGood (r .size) (r .pending)))))
 unfolding inRange limitsGood countersGood
 in-parts L r = simp both-assoc
 
@@ -244,22 +245,22 @@ both-comm true false = refl
 both-comm false true = refl
 both-comm false false = refl
 
-pub in-front : (L : Layout) (r : Record) → inRange L r ≡ both (frontGood L r) (countsGood (r .size - digestSize L) (r .counts))
+pub in-front : (L : Layout) (r : Record) → inRange L r ≡ both (frontGood L r) (countsGood (mostPresent (r .size)) (r .counts))
 unfolding frontGood
 in-front L r =
     in-parts L r
     ∙ ap (λ (t : Bool). both (limitsGood r) (both (mapGood (r .slots) (r .head) (r .map)) (both (countersGood L r) t)))
-    (both-comm (countsGood (r .size - digestSize L) (r .counts)) (leftGood (r .size) (r .pending)))
+    (both-comm (countsGood (mostPresent (r .size)) (r .counts)) (leftGood (r .size) (r .pending)))
     ∙ simp both-assoc
 
 -- the whole test in the order in which it is made on a record's words, the present bytes last
 pub fits-front : (L : Layout) (r : Record) (a i : ℕ)
-    → fitsLent L r a i ≡ both (frontGood L (bare r)) (both (lengthsOwn (bare r) a i) (countsGood (r .size - digestSize L) (r .counts)))
+    → fitsLent L r a i ≡ both (frontGood L (bare r)) (both (lengthsOwn (bare r) a i) (countsGood (mostPresent (r .size)) (r .counts)))
 unfolding fitsLent lengthsOwn
 fits-front L r a i =
     ap (λ (t : Bool). both t (lengthsOwn r a i)) (in-front L r)
-    ∙ both-assoc (frontGood L r) (countsGood (r .size - digestSize L) (r .counts)) (lengthsOwn r a i)
-    ∙ ap₂ both (sym (front-bare L r)) (both-comm (countsGood (r .size - digestSize L) (r .counts)) (lengthsOwn r a i))
+    ∙ both-assoc (frontGood L r) (countsGood (mostPresent (r .size)) (r .counts)) (lengthsOwn r a i)
+    ∙ ap₂ both (sym (front-bare L r)) (both-comm (countsGood (mostPresent (r .size)) (r .counts)) (lengthsOwn r a i))
 
 -- the record without its present bytes passes where the record does
 no-counts : (m n : ℕ) → countsGood m (replicate n 0) ≡ true
@@ -271,7 +272,7 @@ pub fits-bare : (L : Layout) (r : Record) (a i : ℕ) → fitsLent L r a i ≡ t
 fits-bare L r a i e =
     let parts = sym (fits-front L r a i) ∙ e in
     fits-front L (bare r) a i
-    ∙ both-true _ _ (both-left _ _ parts) (both-true _ _ (both-left _ _ (both-right _ _ parts)) (no-counts (r .size - digestSize L) 32))
+    ∙ both-true _ _ (both-left _ _ parts) (both-true _ _ (both-left _ _ (both-right _ _ parts)) (no-counts (mostPresent (r .size)) 32))
 
 -- What the test of the limits says.
 pub record Limits (r : Record) : Type 0 where
@@ -316,7 +317,7 @@ module _ (L : Layout) (r : Record) (a i : ℕ) (e : fitsLent L r a i ≡ true) w
   unfolding fitsLent
   own = both-right _ _ e
 
-  after-limits : both (mapGood (r .slots) (r .head) (r .map)) (both (countersGood L r) (both (countsGood (r .size - digestSize L) (r .counts)) (leftGood (r .size) (r .pending)))) ≡ true
+  after-limits : both (mapGood (r .slots) (r .head) (r .map)) (both (countersGood L r) (both (countsGood (mostPresent (r .size)) (r .counts)) (leftGood (r .size) (r .pending)))) ≡ true
   after-limits = both-right _ _ (sym (in-parts L r) ∙ range)
 
   map-facts : MapIn (r .slots) (r .head) (r .map)
@@ -325,7 +326,7 @@ module _ (L : Layout) (r : Record) (a i : ℕ) (e : fitsLent L r a i ≡ true) w
   counters : countersGood L r ≡ true
   counters = both-left _ _ (both-right _ _ after-limits)
 
-  counts : countsGood (r .size - digestSize L) (r .counts) ≡ true
+  counts : countsGood (mostPresent (r .size)) (r .counts) ≡ true
   counts = both-left _ _ (both-right _ _ (both-right _ _ after-limits))
 
   left : leftGood (r .size) (r .pending) ≡ true
@@ -412,6 +413,36 @@ lent-pending p h some most =
       area-own = h .area-own;
       index-own = h .index-own;
     }
+
+-- The test does not look at the switch (02, R-13).
+pub lent-switched : {L : Layout} {a i : ℕ} (r : Record) → Lent L (unswitched r) a i → Lent L r a i
+lent-switched r h =
+    record {
+      slots-low = h .slots-low;
+      slots-high = h .slots-high;
+      size-low = h .size-low;
+      size-high = h .size-high;
+      cells-low = h .cells-low;
+      cells-high = h .cells-high;
+      map-below = h .map-below;
+      head-below = h .head-below;
+      head-named = h .head-named;
+      some-free = h .some-free;
+      end-low = h .end-low;
+      end-high = h .end-high;
+      number-some = h .number-some;
+      next-some = h .next-some;
+      keys-high = h .keys-high;
+      counts-high = h .counts-high;
+      left-some = h .left-some;
+      left-high = h .left-high;
+      area-own = h .area-own;
+      index-own = h .index-own;
+    }
+
+pub fits-switched : (L : Layout) (r : Record) (t : Bool) (a i : ℕ) → fitsLent L (withSwitch r t) a i ≡ fitsLent L r a i
+unfolding fitsLent inRange lengthsOwn
+fits-switched L r t a i = refl
 
 -- ---- the blank record is out of range, whatever is lent
 

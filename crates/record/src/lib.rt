@@ -5,6 +5,7 @@ use segment::Version;
 ghost use mathlib.Core.Path.{_≡_};
 ghost use Rattle.record.specs.Answers.{blank, storesLeft, withPending};
 ghost use Rattle.record.specs.Committed.{committed};
+ghost use Rattle.record.specs.Switch.{newLayout, withSwitch, switchedOn};
 ghost use Rattle.record.specs.Refusals.{numberOfRefusal};
 
 pub mod range;
@@ -41,14 +42,16 @@ pub enum Pending {
     },
 }
 
-// The store record of 01, "Memory the caller lends": geometry, index size and edition (02, R-11), what the head's digest says with
-// the end of its entries, the next version, how many keys the log has entries of, and the pending operation; and for each slot the
-// bytes of its present objects (02, R-5). A value of it is named `rec`, since `record` is a word of the proofs' language.
+// The store record of 01, "Memory the caller lends": geometry, index size and edition of the head (02, R-11), whether the store is
+// switched to the second edition (R-13), what the head's digest says with the end of its entries, the next version, how many keys the
+// log has entries of, and the pending operation; and for each slot the bytes of its present objects (R-5). A value of it is named
+// `rec`, since `record` is a word of the proofs' language.
 pub struct Record {
     pub slots: u32,
     pub size: u32,
     pub cells: u32,
     pub edition: Edition,
+    pub switched: bool,
     pub head: u32,
     pub end: u32,
     pub digest: DigestNumber,
@@ -61,6 +64,7 @@ pub struct Record {
 
 // What the last store of an operation makes of the head and the counters.
 pub struct Commit {
+    pub edition: Edition,
     pub head: u32,
     pub end: u32,
     pub digest: DigestNumber,
@@ -197,6 +201,17 @@ pub struct Joined {
     pub rec: Record,
 }
 
+// The switch to the second edition (02, R-13).
+pub enum SwitchAnswer {
+    Switched,
+    Refused(Refusal),
+}
+
+pub struct Switching {
+    pub answer: SwitchAnswer,
+    pub rec: Record,
+}
+
 // An image in the other edition (02, R-12).
 pub enum ConvertAnswer {
     Converted,
@@ -268,6 +283,54 @@ pub fn stores_left(p: Pending) -> u32
     }
 }
 
+// The edition of the next new head: the second once the store is switched, else that of the head.
+pub fn new_edition(rec: Record) -> Edition
+    ensures { λ r. ⌜ r ≡ newLayout rec ⌝ }
+{
+    let edition = rec.edition;
+    if rec.switched {
+        return Edition::Second;
+    }
+    edition
+}
+
+// The record with its switch set or not.
+fn with_switch(rec: Record, switched: bool) -> Record
+    ensures { λ r. ⌜ r ≡ withSwitch rec switched ⌝ }
+{
+    let edition = rec.edition;
+    let number = rec.digest;
+    let next = rec.next;
+    let counts = rec.counts;
+    let pending = rec.pending;
+    Record {
+        slots: rec.slots,
+        size: rec.size,
+        cells: rec.cells,
+        edition,
+        switched: switched,
+        head: rec.head,
+        end: rec.end,
+        digest: number,
+        map: rec.map,
+        next: next,
+        keys: rec.keys,
+        counts,
+        pending,
+    }
+}
+
+// The record of a store that goes on in the second edition. Where it does so already nothing changes.
+pub fn switched_on(rec: Record) -> Record
+    ensures { λ r. ⌜ r ≡ switchedOn rec ⌝ }
+{
+    let edition = rec.edition;
+    match edition {
+        Edition::First => with_switch(rec, true),
+        Edition::Second => rec,
+    }
+}
+
 // The record with another pending operation.
 pub fn with_pending(rec: Record, p: Pending) -> Record
     ensures { λ r. ⌜ r ≡ withPending rec p ⌝ }
@@ -281,6 +344,7 @@ pub fn with_pending(rec: Record, p: Pending) -> Record
         size: rec.size,
         cells: rec.cells,
         edition,
+        switched: rec.switched,
         head: rec.head,
         end: rec.end,
         digest: number,
@@ -296,7 +360,7 @@ pub fn with_pending(rec: Record, p: Pending) -> Record
 pub fn committed(rec: Record, done: Commit, keys: u32, counts: [u32; 32]) -> Record
     ensures { λ r. ⌜ r ≡ committed rec done keys counts ⌝ }
 {
-    let edition = rec.edition;
+    let edition = done.edition;
     let number = done.digest;
     let next = done.next;
     Record {
@@ -304,6 +368,7 @@ pub fn committed(rec: Record, done: Commit, keys: u32, counts: [u32; 32]) -> Rec
         size: rec.size,
         cells: rec.cells,
         edition,
+        switched: rec.switched,
         head: done.head,
         end: done.end,
         digest: number,
@@ -324,6 +389,7 @@ pub fn blank() -> Record
         size: 0,
         cells: 0,
         edition: Edition::First,
+        switched: false,
         head: 0,
         end: 0,
         digest: DigestNumber(0),

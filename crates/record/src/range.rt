@@ -6,13 +6,12 @@ use segment::Edition;
 use segment::Version;
 use segment::layout::digest_size;
 use segment::layout::version_limit;
-ghost use Prim.Native.Nat.{_-_, _≤_};
+ghost use Prim.Native.Nat.{_≤_};
 ghost use mathlib.Core.Path.{_≡_};
-ghost use Rattle.record.specs.Range.{between, slotsGood, sizeGood, cellsGood, mapGood, leftGood, nextGood, countsGood, inRange, fitsLent, lengthsOwn};
+ghost use Rattle.record.specs.Range.{between, slotsGood, sizeGood, cellsGood, mapGood, leftGood, nextGood, countsGood, mostPresent, inRange, fitsLent, lengthsOwn};
 ghost use Rattle.record.specs.RangeLaws.{limitsGood, countersGood, numbersGood, frontGood};
 ghost use lib.Dec.{leb};
 ghost use Rattle.segment.specs.Choice.{both};
-ghost use Rattle.segment.specs.Layout.{digestSize};
 
 // Whether x is from low to high.
 pub fn between(low: usize, high: usize, x: usize) -> bool
@@ -122,14 +121,16 @@ pub fn counts_good(counts: &[u32], limit: u32) -> bool
     good
 }
 
-// Whether no slot has more present bytes than a segment has behind its digest.
+// Bytes of a digest of the first edition, the shortest.
+const SHORTEST_DIGEST: u32 = 13;
+
+// Whether no slot has more present bytes than a segment of any edition has behind its digest.
 fn bytes_good(rec: Record) -> bool
     requires { ⌜ 256 ≤ rec .size ⌝ }
-    ensures { λ r. ⌜ r ≡ countsGood (rec .size - digestSize (rec .edition)) (rec .counts) ⌝ }
+    ensures { λ r. ⌜ r ≡ countsGood (mostPresent (rec .size)) (rec .counts) ⌝ }
 {
-    let edition = rec.edition;
     let counts = rec.counts;
-    counts_good(&counts, rec.size - digest_size(edition) as u32)
+    counts_good(&counts, rec.size - SHORTEST_DIGEST)
 }
 
 // Whether every number of the record is in range, those of present bytes and of the pending operation left aside.

@@ -18,11 +18,11 @@ use Rattle.record.specs.declared.Refusal.{Refusal}
 use Rattle.record.specs.declared.Refusal.the-variants.{Geometry, Cells, BadOrder, NoDigest, BadDigest, BadMap, MapNoDigest, MixedEditions, DamagedLog, SharedVersion}
 use Rattle.model.specs.Log.{View, Head, Scan, damaged, scanned, scan, endOf, segmentOf, headOf, highest, versionShared}
 use Rattle.model.specs.Causes.{Cause, when, firstCause}
-use Rattle.model.specs.Recovery.{geometryBad, orderBad, headElse, mapBad, namesNoDigest, digestBad, otherEdition, logDamaged, logSlots, logUnder, digestCauses, imageCauses}
+use Rattle.model.specs.Recovery.{geometryBad, orderBad, headElse, mapBad, namesNoDigest, digestBad, logDamaged, logSlots, logUnder, digestCauses}
 use Rattle.laws.specs.CauseLaws.{NoCause, no-cause, cause-first, cause-skip, cause-none, first-some, first-none}
 use Rattle.laws.specs.Scans.{scan-scans, scans-high}
 use Rattle.laws.specs.Stores.{length-segment}
-use Rattle.recovery.specs.Recovering.{lentFirst, checkedAs, imageFor, imageOf, imageUnder, recordWith}
+use Rattle.recovery.specs.Recovering.{lentFirst, checkedAs, editionsBad, imageChecks, imageFor, imageOf, imageUnder, recordWith}
 use Rattle.recovery.specs.declared.Checked.{Checked}
 use Rattle.recovery.specs.declared.Image.{Image}
 
@@ -121,18 +121,18 @@ head-below v n h e =
     let clear : NoCause (digestCauses v n h) = no-cause (digestCauses v n h) e in
     map-in n (h .slot) (h .digest .map) (not-false _ (clear .1 .0)) .head-in
 
--- ---- the image
+-- ---- the image, where the whole log is to be of one edition or not
 
-module _ (v : ℕ → View) (n : ℕ) where
-  pub head-none : headOf v n ≡ none → Image.Refused NoDigest ≡ imageOf v n
+module _ (single : Bool) (v : ℕ → View) (n : ℕ) where
+  pub head-none : headOf v n ≡ none → Image.Refused NoDigest ≡ imageOf single v n
   unfolding imageFor isNone
   head-none e =
       ap (λ (o : Option Refusal). imageFor v n (headElse (headOf v n)) o)
       (sym (cause-first (when (isNone (headOf v n)) NoDigest) _ (ap isNone e)))
 
-  pub head-some : (h : Head) → headOf v n ≡ some h → imageUnder v n h ≡ imageOf v n
+  pub head-some : (h : Head) → headOf v n ≡ some h → imageUnder single v n h ≡ imageOf single v n
   unfolding headElse
-  head-some h e = ap (λ (o : Option Head). imageFor v n (headElse o) (firstCause (imageCauses (v (headElse o .slot) .layout) v n o))) (sym e)
+  head-some h e = ap (λ (o : Option Head). imageFor v n (headElse o) (firstCause (imageChecks single (v (headElse o .slot) .layout) v n o))) (sym e)
 
   module _ (h : Head) where
     -- the edition of the head's slot, which is the store's
@@ -140,7 +140,7 @@ module _ (v : ℕ → View) (n : ℕ) where
     its = v (h .slot) .layout
 
     abbrev mixed : Cause
-    mixed = when (otherEdition its v (logSlots h) n) MixedEditions
+    mixed = when (editionsBad single its v (logSlots h) n) MixedEditions
 
     abbrev damage : Cause
     damage = when (logDamaged v (logSlots h) n) DamagedLog
@@ -148,45 +148,45 @@ module _ (v : ℕ → View) (n : ℕ) where
     abbrev shared : Cause
     shared = when (versionShared (logUnder v n h)) SharedVersion
 
-    has-head : firstCause (imageCauses its v n (some h)) ≡ firstCause (digestCauses v n h ++ (mixed ∷ damage ∷ shared ∷ []))
+    has-head : firstCause (imageChecks single its v n (some h)) ≡ firstCause (digestCauses v n h ++ (mixed ∷ damage ∷ shared ∷ []))
     unfolding isNone headElse
     has-head = cause-skip (when false NoDigest) (digestCauses v n h ++ (mixed ∷ damage ∷ shared ∷ [])) refl
 
     -- the digest's own causes come first
-    pub head-digest : (c : Refusal) → firstCause (digestCauses v n h) ≡ some c → Image.Refused c ≡ imageUnder v n h
+    pub head-digest : (c : Refusal) → firstCause (digestCauses v n h) ≡ some c → Image.Refused c ≡ imageUnder single v n h
     unfolding imageFor
     head-digest c e = ap (imageFor v n h) (sym (has-head ∙ first-some (digestCauses v n h) (mixed ∷ damage ∷ shared ∷ []) c e))
 
     -- L is what the code finds for the head's edition
     module _ (d : firstCause (digestCauses v n h) ≡ none) (L : Layout) (of : L ≡ its) where
-      behind : firstCause (imageCauses its v n (some h)) ≡ firstCause (mixed ∷ damage ∷ shared ∷ [])
+      behind : firstCause (imageChecks single its v n (some h)) ≡ firstCause (mixed ∷ damage ∷ shared ∷ [])
       behind = has-head ∙ first-none (digestCauses v n h) (mixed ∷ damage ∷ shared ∷ []) d
 
-      tested : otherEdition its v (logSlots h) n ≡ otherEdition L v (logSlots h) n
-      tested = ap (λ (K : Layout). otherEdition K v (logSlots h) n) (sym of)
+      tested : editionsBad single its v (logSlots h) n ≡ editionsBad single L v (logSlots h) n
+      tested = ap (λ (K : Layout). editionsBad single K v (logSlots h) n) (sym of)
 
-      pub head-mixed : otherEdition L v (logSlots h) n ≡ true → Image.Refused MixedEditions ≡ imageUnder v n h
+      pub head-mixed : editionsBad single L v (logSlots h) n ≡ true → Image.Refused MixedEditions ≡ imageUnder single v n h
       unfolding imageFor
       head-mixed e = ap (imageFor v n h) (sym (behind ∙ cause-first mixed (damage ∷ shared ∷ []) (tested ∙ e)))
 
-      module _ (o : otherEdition L v (logSlots h) n ≡ false) where
-        on-damage : firstCause (imageCauses its v n (some h)) ≡ firstCause (damage ∷ shared ∷ [])
+      module _ (o : editionsBad single L v (logSlots h) n ≡ false) where
+        on-damage : firstCause (imageChecks single its v n (some h)) ≡ firstCause (damage ∷ shared ∷ [])
         on-damage = behind ∙ cause-skip mixed (damage ∷ shared ∷ []) (tested ∙ o)
 
-        pub head-damaged : logDamaged v (logSlots h) n ≡ true → Image.Refused DamagedLog ≡ imageUnder v n h
+        pub head-damaged : logDamaged v (logSlots h) n ≡ true → Image.Refused DamagedLog ≡ imageUnder single v n h
         unfolding imageFor
         head-damaged e = ap (imageFor v n h) (sym (on-damage ∙ cause-first damage (shared ∷ []) e))
 
         module _ (u : logDamaged v (logSlots h) n ≡ false) where
-          last : firstCause (imageCauses its v n (some h)) ≡ firstCause (shared ∷ [])
+          last : firstCause (imageChecks single its v n (some h)) ≡ firstCause (shared ∷ [])
           last = on-damage ∙ cause-skip damage (shared ∷ []) u
 
-          pub head-shared : versionShared (logUnder v n h) ≡ true → Image.Refused SharedVersion ≡ imageUnder v n h
+          pub head-shared : versionShared (logUnder v n h) ≡ true → Image.Refused SharedVersion ≡ imageUnder single v n h
           unfolding imageFor
           head-shared e = ap (imageFor v n h) (sym (last ∙ cause-first shared [] e))
 
           pub head-sound : (top : Version) → top ≡ record { 0 = highest (logUnder v n h) } → versionShared (logUnder v n h) ≡ false
-              → Image.Sound L (h .slot) (h .digest) top ≡ imageUnder v n h
+              → Image.Sound L (h .slot) (h .digest) top ≡ imageUnder single v n h
           unfolding imageFor firstCause
           head-sound top e f =
               (λ i. Image.Sound (of i) (h .slot) (h .digest) (e i)) ∙ ap (imageFor v n h) (sym (last ∙ cause-none shared [] f refl))
@@ -220,6 +220,7 @@ pub record-with : (L : Layout) (n s m : ℕ) (area : List ℕ) (slot : ℕ) (d :
       size = s;
       cells = m;
       edition = L;
+      switched = false;
       head = slot;
       end = e;
       digest = d .number;
@@ -236,6 +237,7 @@ record-with L n s m area slot d top keys e next counts p q =
       size = s;
       cells = m;
       edition = L;
+      switched = false;
       head = slot;
       end = p i;
       digest = d .number;

@@ -16,11 +16,10 @@ use Rattle.segment.specs.declared.Key.{Key}
 use Rattle.segment.specs.declared.Read.{Read}
 use Rattle.segment.specs.declared.Version.{Version}
 use Rattle.slot_map.specs.Bit.{named}
-use Rattle.record.specs.Answers.{withPending}
 use Rattle.record.specs.Range.{fitsLent}
 use Rattle.record.specs.Reach.{holdsTable}
 use Rattle.record.specs.RangeLaws.{lent}
-use Rattle.record.specs.declared.Pending.the-variants.{Idle}
+use Rattle.record.specs.Switch.{asRecovered}
 use Rattle.record.specs.declared.Record.{Record}
 use Rattle.record.specs.declared.ReadAnswer.{ReadAnswer}
 use Rattle.record.specs.declared.Refusal.{Refusal}
@@ -171,7 +170,7 @@ entry-lookup S x = go (isTombstone (x .entry))
 pub genuine-scans : (L : Layout) (r : Record) (area cells : List ℕ) → Genuine L area r cells → AllScanned (viewsOf area (r .size)) (named (r .map)) (r .slots)
 genuine-scans L r area cells genuine =
     recovered-case L (r .slots) (r .size) (r .cells) area (λ (q : Record). AllScanned (viewsOf area (r .size)) (named (q .map)) (r .slots))
-    (λ h a f. f .scans) (withPending r Idle) (genuine .recovers)
+    (λ h a f. f .scans) (asRecovered r) (genuine .recovers)
 
 module _ (L : Layout) (r : Record) (area cells : List ℕ) (t : Tables) (k : Key) (genuine : Genuine L area r cells)
     (fit : fitsLent L r (length area) (length cells) ≡ true) where
@@ -187,7 +186,7 @@ module _ (L : Layout) (r : Record) (area cells : List ℕ) (t : Tables) (k : Key
   few : length (keysOf log) < length cells
   few =
       let l = lent L r (length area) (length cells) fit in
-      omega (arith, recovered-keys L (r .slots) S (r .cells) area (withPending r Idle) (genuine .recovers))
+      omega (arith, recovered-keys L (r .slots) S (r .cells) area (asRecovered r) (genuine .recovers))
 
   pub at-place : (x : Placed) → In x log → standsAt area (placeOf S x) ≡ answer (x .layout) (entry (x .entry))
   at-place x m = stands-at area S (named (r .map)) (r .slots) scans x m

@@ -43,7 +43,7 @@ use Rattle.index.specs.declared.Built.{Built}
 use Rattle.recovery.specs.FormatLaws.{Fits, geometry-fits}
 use Rattle.recovery.specs.Counting.{countedIn}
 use Rattle.recovery.specs.CountLaws.{counted-log}
-use Rattle.recovery.specs.Recovering.{lentFirst, imageFor, imageOf, recordWith, refusedWith}
+use Rattle.recovery.specs.Recovering.{lentFirst, editionsBad, imageChecks, imageFor, imageOf, recordWith, refusedWith}
 use Rattle.recovery.specs.declared.Image.{Image}
 
 -- ---- the first cause
@@ -66,53 +66,48 @@ first-keeps (x ∷ a) k c e = go (x .holds) e (λ q. first-keeps a (k .1) c q)
 -- ---- a sound image
 
 -- The head's slot, its edition and its digest, and that none of the image's causes holds.
-pub record SoundImage (L : Layout) (v : ℕ → View) (n i : ℕ) (d : Digest) (top : Version) : Type 0 where
-  pub clear : firstCause (imageCauses L v n (headOf v n)) ≡ none
+pub record SoundImage (single : Bool) (L : Layout) (v : ℕ → View) (n i : ℕ) (d : Digest) (top : Version) : Type 0 where
+  pub clear : firstCause (imageChecks single L v n (headOf v n)) ≡ none
   pub head : headElse (headOf v n) ≡ record { slot = i; digest = d }
   pub edition : v (headElse (headOf v n) .slot) .layout ≡ L
   pub top-is : top ≡ record { 0 = highest (logOf v (named (d .map)) n) }
 
-module _ (L : Layout) (v : ℕ → View) (n i : ℕ) (d : Digest) (top : Version) where
+module _ (single : Bool) (L : Layout) (v : ℕ → View) (n i : ℕ) (d : Digest) (top : Version) where
   abbrev found-head : Head
   found-head = headElse (headOf v n)
 
   abbrev found-edition : Layout
   found-edition = v (found-head .slot) .layout
 
-  pub sound-image : imageOf v n ≡ Image.Sound L i d top → SoundImage L v n i d top
+  pub sound-image : imageOf single v n ≡ Image.Sound L i d top → SoundImage single L v n i d top
   unfolding imageFor
-  sound-image e = go (firstCause (imageCauses found-edition v n (headOf v n))) refl e
+  sound-image e = go (firstCause (imageChecks single found-edition v n (headOf v n))) refl e
     where
-      go : (o : Option Refusal) → firstCause (imageCauses found-edition v n (headOf v n)) ≡ o → imageFor v n found-head o ≡ Image.Sound L i d top
-          → SoundImage L v n i d top
+      go : (o : Option Refusal) → firstCause (imageChecks single found-edition v n (headOf v n)) ≡ o → imageFor v n found-head o ≡ Image.Sound L i d top
+          → SoundImage single L v n i d top
       go none q f =
           let of : found-edition ≡ L = cc in
           let slot : found-head .slot ≡ i = cc in
           let digest : found-head .digest ≡ d = cc in
           let high : record { 0 = highest (logUnder v n found-head) } ≡ top = cc in
           record {
-            clear = subst (λ (K : Layout). firstCause (imageCauses K v n (headOf v n)) ≡ none) of q;
+            clear = subst (λ (K : Layout). firstCause (imageChecks single K v n (headOf v n)) ≡ none) of q;
             head = λ j. record { slot = slot j; digest = digest j };
             edition = of;
             top-is = sym high ∙ ap (λ (x : Digest). record { 0 = highest (logOf v (named (x .map)) n) }) digest;
           }
       go (some c) q f = let z : _≡_ {A = ℕ} 0 1 = cc in absurd (omega arith)
 
-module _ (L : Layout) (v : ℕ → View) (n i : ℕ) (d : Digest) (top : Version) (s : SoundImage L v n i d top) where
+module _ (single : Bool) (L : Layout) (v : ℕ → View) (n i : ℕ) (d : Digest) (top : Version) (s : SoundImage single L v n i d top) where
   abbrev own : Head
   own = record { slot = i; digest = d }
 
-  passed : ImagePassed L v n (headOf v n)
-  passed = image-passed L v n (headOf v n) (s .clear)
+  passed : ImagePassed (editionsBad single L v (logSlots (headElse (headOf v n))) n) v n (headOf v n)
+  passed = image-passed _ v n (headOf v n) (s .clear)
 
   image-map : mapGood n i (d .map) ≡ true
   image-map =
       not-false _ (subst (λ (h : Head). mapBad n h ≡ false) (s .head) (passed .map-within))
-
-  -- every log slot is of the head's edition
-  pub image-editions : AllOf L v (named (d .map)) n
-  image-editions =
-      editions-one v (named (d .map)) n L (subst (λ (h : Head). otherEdition L v (logSlots h) n ≡ false) (s .head) (passed .one-edition))
 
   pub image-scans : AllScanned v (named (d .map)) n
   image-scans =
@@ -120,6 +115,12 @@ module _ (L : Layout) (v : ℕ → View) (n i : ℕ) (d : Digest) (top : Version
 
   image-versions : versionShared (logOf v (named (d .map)) n) ≡ false
   image-versions = subst (λ (h : Head). versionShared (logUnder v n h) ≡ false) (s .head) (passed .versions-apart)
+
+-- every log slot is of the head's edition, where that is asked for
+pub image-editions : (L : Layout) (v : ℕ → View) (n i : ℕ) (d : Digest) (top : Version) → SoundImage true L v n i d top → AllOf L v (named (d .map)) n
+image-editions L v n i d top s =
+    editions-one v (named (d .map)) n L
+    (subst (λ (h : Head). otherEdition L v (logSlots h) n ≡ false) (s .head) (passed true L v n i d top s .editions-good))
 
 -- ---- what is lent
 
@@ -188,12 +189,12 @@ module _ (L : Layout) (n s : ℕ) (order area cells : List ℕ) where
     on-image : cause ≡ firstCause rest
     on-image = first-none (lentCauses n s m (length area) ++ (when (orderBad n order) BadOrder ∷ [])) rest passed
 
-    module _ (i : ℕ) (d : Digest) (top : Version) (sound : imageOf v n ≡ Image.Sound L i d top) where
+    module _ (i : ℕ) (d : Digest) (top : Version) (sound : imageOf false v n ≡ Image.Sound L i d top) where
       abbrev log : List Placed
       log = logOf v (named (d .map)) n
 
-      image : SoundImage L v n i d top
-      image = sound-image L v n i d top sound
+      image : SoundImage false L v n i d top
+      image = sound-image false L v n i d top sound
 
       on-keys : cause ≡ firstCause (when (keysBad m log) TooManyKeys ∷ [])
       on-keys =
@@ -202,7 +203,7 @@ module _ (L : Layout) (n s : ℕ) (order area cells : List ℕ) where
           ∙ ap (λ (h : Head). firstCause (when (keysBad m (logUnder v n h)) TooManyKeys ∷ [])) (image .head)
 
       pub head-inside : i < n
-      head-inside = map-in n i (d .map) (image-map L v n i d top image) .head-in
+      head-inside = map-in n i (d .map) (image-map false L v n i d top image) .head-in
 
       -- the promise by the edition that the head's slot tells
       by-head : {cells′ : List ℕ} {r : Recovery} → RecoverPromise L n s order area cells cells′ r
@@ -217,13 +218,13 @@ module _ (L : Layout) (n s : ℕ) (order area cells : List ℕ) where
 
       rebuilt : keysBad m log ≡ false → Holds s m log (built area s (d .map) order m)
       rebuilt few =
-          built-rule area s (d .map) n m order (lent-fits n s order area cells passed .area-own) (map-in n i (d .map) (image-map L v n i d top image) .below)
-          (image-scans L v n i d top image) (image-versions L v n i d top image) (lent-tested n s order area cells passed .order-good) (cells-some n s order area cells passed) (omega (arith, cells-few n s order area cells passed)) few
+          built-rule area s (d .map) n m order (lent-fits n s order area cells passed .area-own) (map-in n i (d .map) (image-map false L v n i d top image) .below)
+          (image-scans false L v n i d top image) (image-versions false L v n i d top image) (lent-tested n s order area cells passed .order-good) (cells-some n s order area cells passed) (omega (arith, cells-few n s order area cells passed)) few
 
       overfull : keysBad m log ≡ true → built area s (d .map) order m ≡ record { answer = Built.TooMany; cells = replicate m 0 }
       overfull many =
-          built-over area s (d .map) n m order (lent-fits n s order area cells passed .area-own) (map-in n i (d .map) (image-map L v n i d top image) .below)
-          (image-scans L v n i d top image) (image-versions L v n i d top image) (lent-tested n s order area cells passed .order-good) (cells-some n s order area cells passed) (omega (arith, cells-few n s order area cells passed)) many
+          built-over area s (d .map) n m order (lent-fits n s order area cells passed .area-own) (map-in n i (d .map) (image-map false L v n i d top image) .below)
+          (image-scans false L v n i d top image) (image-versions false L v n i d top image) (lent-tested n s order area cells passed .order-good) (cells-some n s order area cells passed) (omega (arith, cells-few n s order area cells passed)) many
 
       -- the highest version in the log, and so the next, fits
       pub highest-fits : top .0 < 18446744073709551615
@@ -237,7 +238,7 @@ module _ (L : Layout) (n s : ℕ) (order area cells : List ℕ) where
                   arith,
                   version-below (x .layout) (x .entry .version)
                       (found-readable (x .layout) (segmentOf area s (x .slot)) (x .offset) (x .entry)
-                      (log-reads area s (named (d .map)) n (image-scans L v n i d top image) x w) .good),
+                      (log-reads area s (named (d .map)) n (image-scans false L v n i d top image) x w) .good),
                   limit-high (x .layout),
                 )),
           )
@@ -299,8 +300,8 @@ module _ (L : Layout) (n s : ℕ) (order area cells : List ℕ) where
       -- the present bytes that are counted over the cells
       counts-told : (a : Built) (k : ℕ) (cells′ : List ℕ) → Rebuilds a cells′ → a ≡ Built.Keys k → countedIn s area cells′ ≡ countsOf log
       counts-told a k cells′ e counts =
-          counted-log s area log cells′ (told a k cells′ e counts .rule) (image-versions L v n i d top image)
-          (λ x w. log-in v (named (d .map)) n x w .layout) (log-reads area s (named (d .map)) n (image-scans L v n i d top image))
+          counted-log s area log cells′ (told a k cells′ e counts .rule) (image-versions false L v n i d top image)
+          (λ x w. log-in v (named (d .map)) n x w .layout) (log-reads area s (named (d .map)) n (image-scans false L v n i d top image))
 
       -- the record with each part that the code finds
       abbrev recordAt : ℕ → ℕ → Version → ℕ → List ℕ → Record
@@ -310,6 +311,7 @@ module _ (L : Layout) (n s : ℕ) (order area cells : List ℕ) where
             size = s;
             cells = cells;
             edition = L;
+            switched = false;
             head = i;
             end = end;
             digest = d .number;
@@ -352,7 +354,7 @@ module _ (n s : ℕ) (order area cells : List ℕ) (passed : lentFirst n s (leng
   abbrev found : List Cause
   found = imageCauses its (viewsOf area s) n (headOf (viewsOf area s) n)
 
-  pub image-promise : (c : Refusal) (r : Recovery) → imageOf (viewsOf area s) n ≡ Image.Refused c → r ≡ refusedWith c
+  pub image-promise : (c : Refusal) (r : Recovery) → imageOf false (viewsOf area s) n ≡ Image.Refused c → r ≡ refusedWith c
       → RecoverPromise its n s order area cells cells r
   unfolding imageFor
   image-promise c r e same =

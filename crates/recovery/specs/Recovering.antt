@@ -1,5 +1,6 @@
--- Recovery in the parts in which its code makes it: what is lent (1, 2, 15), the image (16 to 19, 24 and 25), and the record.
+-- Recovery in the parts in which its code makes it: what is lent (1, 2, 15), the image (16 to 19, 24, 25 and 28), and the record.
 use Prim.Native.Nat.{ℕ, _+_, max}
+use mathlib.Core.Bool.{Bool, true, false}
 use mathlib.Core.List.{List, [], _∷_, _++_}
 use mathlib.Core.Option.{Option, none, some}
 use Rattle.segment.specs.Layout.{Layout}
@@ -13,8 +14,8 @@ use Rattle.record.specs.declared.Record.{Record}
 use Rattle.record.specs.declared.Recovery.{Recovery}
 use Rattle.record.specs.declared.RecoverAnswer.{RecoverAnswer}
 use Rattle.model.specs.Log.{View, Head, segmentOf, scan, endOf, headOf, highest}
-use Rattle.model.specs.Causes.{when, firstCause}
-use Rattle.model.specs.Recovery.{orderBad, lentCauses, imageCauses, headElse, logUnder}
+use Rattle.model.specs.Causes.{Cause, when, firstCause}
+use Rattle.model.specs.Recovery.{orderBad, lentCauses, laterEdition, otherEdition, imageCausesBy, headElse, logSlots, logUnder}
 use Rattle.recovery.specs.declared.Checked.{Checked}
 use Rattle.recovery.specs.declared.Image.{Image}
 
@@ -26,17 +27,28 @@ unfoldable pub checkedAs : Option Refusal → Checked
 checkedAs none = Checked.Passed
 checkedAs (some c) = Checked.Refused c
 
+-- 28 in its two forms: where the log has to be of a single edition, which the conversion of images asks, and where slots of an earlier edition
+-- than the head's are taken, as recovery and the read by scan do (02, R-13)
+abbrev pub editionsBad : Bool → Layout → (ℕ → View) → (ℕ → Bool) → ℕ → Bool
+editionsBad true L v p n = otherEdition L v p n
+editionsBad false L v p n = laterEdition L v p n
+
+-- 16, 17, 24, 25, 28, 18 and 19 with either
+abbrev pub imageChecks : Bool → Layout → (ℕ → View) → ℕ → Option Head → List Cause
+imageChecks single L v n h = imageCausesBy (editionsBad single L v (logSlots (headElse h)) n) v n h
+
 -- what refuses the image, or the head with its edition and the highest version in its log
 unfoldable pub imageFor : (ℕ → View) → ℕ → Head → Option Refusal → Image
 imageFor v n h none = Image.Sound (v (h .slot) .layout) (h .slot) (h .digest) (record { 0 = highest (logUnder v n h) })
 imageFor v n h (some c) = Image.Refused c
 
-abbrev pub imageOf : (ℕ → View) → ℕ → Image
-imageOf v n = imageFor v n (headElse (headOf v n)) (firstCause (imageCauses (v (headElse (headOf v n) .slot) .layout) v n (headOf v n)))
+abbrev pub imageOf : Bool → (ℕ → View) → ℕ → Image
+imageOf single v n =
+    imageFor v n (headElse (headOf v n)) (firstCause (imageChecks single (v (headElse (headOf v n) .slot) .layout) v n (headOf v n)))
 
 -- the same under a head that was found
-abbrev pub imageUnder : (ℕ → View) → ℕ → Head → Image
-imageUnder v n h = imageFor v n h (firstCause (imageCauses (v (h .slot) .layout) v n (some h)))
+abbrev pub imageUnder : Bool → (ℕ → View) → ℕ → Head → Image
+imageUnder single v n h = imageFor v n h (firstCause (imageChecks single (v (h .slot) .layout) v n (some h)))
 
 -- the record of a head, the highest version in its log, the number of its keys, and the present bytes of the slots
 abbrev pub recordWith : Layout → ℕ → ℕ → ℕ → List ℕ → ℕ → Digest → Version → ℕ → List ℕ → Record
@@ -46,6 +58,7 @@ recordWith L n s m area slot d top keys counts =
       size = s;
       cells = m;
       edition = L;
+      switched = false;
       head = slot;
       end = endOf (scan L (segmentOf area s slot));
       digest = d .number;

@@ -7,6 +7,7 @@ use index::Built;
 use index::build::build;
 use log::HeadFound;
 use log::head::find_head;
+use log::head::names_later_edition;
 use log::head::names_no_digest;
 use log::head::names_other_edition;
 use log::head::shared_number;
@@ -34,13 +35,14 @@ ghost use mathlib.Core.Option.{none};
 ghost use lib.Dec.{eqb, ltb};
 ghost use lib.ListN.{length};
 ghost use Rattle.segment.specs.Choice.{either};
+ghost use Rattle.slot_map.specs.Bit.{named};
 ghost use Rattle.model.specs.Log.{viewsOf};
 ghost use Rattle.model.specs.Causes.{firstCause};
 ghost use Rattle.model.specs.Recovery.{imageLayout, orderBad, sharing, digestBad, digestCauses};
 ghost use Rattle.model.specs.Promises.{RecoverPromise};
 ghost use Rattle.log.specs.Shape.{Shape};
 ghost use Rattle.recovery.specs.Order.{seeSlot, seenFrom};
-ghost use Rattle.recovery.specs.Recovering.{lentFirst, checkedAs, imageOf, imageUnder, recordWith, refusedWith};
+ghost use Rattle.recovery.specs.Recovering.{lentFirst, checkedAs, editionsBad, imageOf, imageUnder, recordWith, refusedWith};
 
 // The slots seen so far and one more, if it is one of the n.
 fn see_slot(n: u32, seen: u32, slot: u8) -> u32
@@ -140,16 +142,28 @@ fn check_digest(n: usize, s: usize, area: &[u8], slot: usize, digest: Digest) ->
     Checked::Passed
 }
 
+// 28, under a head of an edition. The conversion of images asks for a log of that edition alone; recovery and the read by scan take
+// slots of an earlier one (02, R-13).
+fn editions_bad(single: bool, edition: Edition, n: usize, s: usize, area: &[u8], map: u32) -> bool
+    requires { ⌜ Shape n s (now area) ⌝ }
+    ensures { λ r. ⌜ r ≡ editionsBad single edition (viewsOf (now (area .entry)) s) (named map) n ⌝ }
+{
+    if single {
+        return names_other_edition(edition, n, s, area, map);
+    }
+    names_later_edition(edition, n, s, area, map)
+}
+
 // 28, 18 and 19, under a head whose digest is good. The edition is the head's (02, R-11).
-fn look_through(n: usize, s: usize, area: &[u8], slot: usize, digest: Digest) -> Image
+fn look_through(single: bool, n: usize, s: usize, area: &[u8], slot: usize, digest: Digest) -> Image
     requires { ⌜ Shape n s (now area)
         × (firstCause (digestCauses (viewsOf (now area) s) n (record { slot = slot; digest = digest })) ≡ none) ⌝ }
     ensures { λ r.
-        ⌜ r ≡ imageUnder (viewsOf (now (area .entry)) s) n (record { slot = slot; digest = digest }) ⌝ }
+        ⌜ r ≡ imageUnder single (viewsOf (now (area .entry)) s) n (record { slot = slot; digest = digest }) ⌝ }
 {
     let map = digest.map;
     let edition = edition_of(cut(s, area, slot));
-    if names_other_edition(edition, n, s, area, map) {
+    if editions_bad(single, edition, n, s, area, map) {
         return Image::Refused(Refusal::MixedEditions);
     }
     let passed = survey(n, s, area, map);
@@ -169,25 +183,25 @@ fn look_through(n: usize, s: usize, area: &[u8], slot: usize, digest: Digest) ->
 }
 
 // 17, 24, 25, 28, 18 and 19, under a head that was found.
-fn look_under(n: usize, s: usize, area: &[u8], slot: usize, digest: Digest) -> Image
+fn look_under(single: bool, n: usize, s: usize, area: &[u8], slot: usize, digest: Digest) -> Image
     requires { ⌜ Shape n s (now area) × (slot < n) ⌝ }
     ensures { λ r.
-        ⌜ r ≡ imageUnder (viewsOf (now (area .entry)) s) n (record { slot = slot; digest = digest }) ⌝ }
+        ⌜ r ≡ imageUnder single (viewsOf (now (area .entry)) s) n (record { slot = slot; digest = digest }) ⌝ }
 {
     match check_digest(n, s, area, slot, digest) {
         Checked::Refused(cause) => Image::Refused(cause),
-        Checked::Passed => look_through(n, s, area, slot, digest),
+        Checked::Passed => look_through(single, n, s, area, slot, digest),
     }
 }
 
-// 16, 17, 24, 25, 28, 18 and 19, which look at the image alone.
-pub fn look_at(n: usize, s: usize, area: &[u8]) -> Image
+// 16, 17, 24, 25, 28, 18 and 19, which look at the image alone. `single` asks that the whole log is of the head's edition.
+pub fn look_at(single: bool, n: usize, s: usize, area: &[u8]) -> Image
     requires { ⌜ Shape n s (now area) ⌝ }
-    ensures { λ r. ⌜ r ≡ imageOf (viewsOf (now (area .entry)) s) n ⌝ }
+    ensures { λ r. ⌜ r ≡ imageOf single (viewsOf (now (area .entry)) s) n ⌝ }
 {
     match find_head(n, s, area) {
         HeadFound::Nothing => Image::Refused(Refusal::NoDigest),
-        HeadFound::At { slot, digest } => look_under(n, s, area, slot, digest),
+        HeadFound::At { slot, digest } => look_under(single, n, s, area, slot, digest),
     }
 }
 
@@ -226,6 +240,7 @@ fn record_of(
         size: s,
         cells: m,
         edition,
+        switched: false,
         head: slot as u32,
         end: end as u32,
         digest: number,
@@ -253,7 +268,7 @@ fn recover_image(n: u32, s: u32, order: &[u8], area: &[u8], index: &mut [u32]) -
     ensures { λ r.
         ⌜ RecoverPromise (imageLayout n s (now (area .entry))) n s (now (order .entry)) (now (area .entry)) (now (index .entry)) (now (index .exit)) r ⌝ }
 {
-    match look_at(n as usize, s as usize, area) {
+    match look_at(false, n as usize, s as usize, area) {
         Image::Refused(cause) => refused(cause),
         Image::Sound {
             edition,

@@ -60,7 +60,7 @@ refusals :
 unfolding opened digitsIn before inOrder ascending presentOf lineOf linesOf textUnless areaText dumpText
 refusals = (refl, refl, refl, refl, refl, refl)
 
--- ---- the editions (02, R-11)
+-- ---- the editions (02, R-11 and R-13)
 
 -- a slot of edition 2 with a digest and entries
 abbrev second : (number map next : ℕ) → List Entry → List ℕ
@@ -82,10 +82,15 @@ edition-2 :
 unfolding opened digitsIn before inOrder ascending presentOf lineOf linesOf textUnless areaText dumpText
 edition-2 = refl
 
--- Both editions in one log, either of them the head's; a digest number in both; and a slot of the other edition outside the log.
+-- Both editions in one log, the head's the earlier and the later (R-13), which takes each slot by its own kinds; a digest number in both;
+-- and a slot of the other edition outside the log.
 both-editions :
     (dumpText (input (seg 2 3 1 [] ++ second 1 1 1 [] ++ vacant ++ vacant)) ≡ ascii "refused 28\n")
-    × (dumpText (input (second 2 3 1 [] ++ seg 1 1 1 [] ++ vacant ++ vacant)) ≡ ascii "refused 28\n")
+    × (dumpText
+    (input
+    (second 2 3 1 (object (keyed 7 1) 5 (replicate 8 1) ∷ []) ++
+    seg 1 1 1 (object (keyed 7 1) 1 (replicate 8 1) ∷ object (keyed 7 2) 2 (replicate 24 2) ∷ []) ++ vacant ++ vacant))
+    ≡ ascii "next 6 digest 2 keys 2\n7 1 5 9\n7 2 2 2\n")
     × (dumpText (input (seg 2 3 1 [] ++ second 2 3 1 [] ++ vacant ++ vacant)) ≡ ascii "refused 17\n")
     × (dumpText (input (seg 2 1 1 [] ++ second 1 1 1 [] ++ vacant ++ vacant)) ≡ ascii "next 1 digest 2 keys 0\n")
 unfolding opened digitsIn before inOrder ascending presentOf lineOf linesOf textUnless areaText dumpText

@@ -22,7 +22,7 @@ use Rattle.model.specs.Operations.{logNow}
 use Rattle.model.specs.Promises.{RecoverPromise, IndexAfter}
 use Rattle.model.specs.Recovery.{imageLayout, lists, listsBelow, orderBad, geometryBad, areaCauses, ifNone, recordFrom, recovered, recoveryFor, recovery}
 use Rattle.laws.specs.CauseLaws.{cause-first}
-use Rattle.laws.specs.RecoverLaws.{order-free, recovered-fits}
+use Rattle.laws.specs.RecoverLaws.{order-free, own-recovered, recovered-fits}
 use Rattle.report.specs.Report.{refusedLine, listingText, cellsUsed, textUnless, areaText}
 use Rattle.report.specs.Gather.{RecoveredArea}
 
@@ -129,8 +129,9 @@ module _ (n s : ℕ) (area cells cells′ : List ℕ) (r : Recovery) (long : len
         ∙ sym (ap (λ (o : Option Refusal). textUnless o (listingText area (rec L n s cellsUsed area))) (accepted .0))
 
     recovers : recovered L n s cellsUsed area ≡ some (rec L n s cellsUsed area)
-    unfolding recovered ifNone
-    recovers = ap (λ (o : Option Refusal). ifNone o (rec L n s cellsUsed area)) (accepted .0)
+    unfolding ifNone
+    recovers =
+        own-recovered L n s cellsUsed area refl ∙ ap (λ (o : Option Refusal). ifNone o (rec L n s cellsUsed area)) (accepted .0)
 
     rule : IndexRule (r .rec .size) (logNow area (r .rec)) cells′
     unfolding IndexAfter

@@ -36,7 +36,7 @@ use Rattle.model.specs.Promises.{Genuine, RecoverPromise, IndexAfter, ReadPromi
 use denote.Ref.{RefT}
 use Rattle.laws.specs.LogLaws.{AllScanned, scans-undamaged}
 use Rattle.laws.specs.OperationsKept.{edition-laws}
-use Rattle.laws.specs.RecoverLaws.{order-free, recovery-recovered, recovered-case}
+use Rattle.laws.specs.RecoverLaws.{order-free, own-recovered, recovery-recovered, recovered-case}
 use Rattle.log.specs.Shape.{Shape}
 use Rattle.log.specs.Surveys.{Surveyed}
 use Rattle.report.specs.Gather.{RecoveredArea}
@@ -59,8 +59,10 @@ module _ (order area cells cells′ : List ℕ) (r : Recovery) (good : orderBad 
   answered = p .answers ∙ ap (λ (m : ℕ). recovery L 4 256 m order area) long ∙ order-free L 4 256 16 area order good
 
   pub recovered-none : (c : Refusal) → r .answer ≡ RecoverAnswer.Refused c → recovered (imageLayout 4 256 area) 4 256 16 area ≡ none
-  unfolding recovered ifNone recoveryFor
-  recovered-none c e = go (firstCause (areaCauses L 4 256 16 area)) (sym (ap (λ (x : Recovery). x .answer) answered) ∙ e)
+  unfolding ifNone recoveryFor
+  recovered-none c e =
+      own-recovered L 4 256 16 area refl
+      ∙ go (firstCause (areaCauses L 4 256 16 area)) (sym (ap (λ (x : Recovery). x .answer) answered) ∙ e)
     where
       go : (o : Option Refusal) → recoveryFor o (recordFrom L 4 256 16 area) .answer ≡ RecoverAnswer.Refused c → ifNone o (recordFrom L 4 256 16 area) ≡ none
       go none q = let z : _≡_ {A = ℕ} 0 1 = cc in absurd (omega arith)
@@ -74,7 +76,7 @@ module _ (order area cells cells′ : List ℕ) (r : Recovery) (good : orderBad 
         long = p .same-length ∙ long;
         recovers =
             at-record L area (r .rec)
-            (recovery-recovered L 4 256 16 area order (r .rec)
+            (recovery-recovered L 4 256 16 area order (r .rec) refl
             (ap (λ (m : ℕ). recovery L 4 256 m order area) (sym long) ∙ sym (p .answers) ∙ (λ i. record { answer = e i; rec = r .rec })));
         rule = subst (IndexAfter area cells cells′ r) e (p .index);
       }

@@ -16,6 +16,7 @@ use Rattle.segment.specs.Entry.{Entry}
 use Rattle.segment.specs.declared.Key.{Key}
 use Rattle.record.specs.Answers.{withPending}
 use Rattle.record.specs.Range.{between, leftGood, inRange, lengthsOwn, fitsLent}
+use Rattle.record.specs.Switch.{newLayout, withSwitch, unswitched}
 use Rattle.record.specs.declared.Pending.{Pending}
 use Rattle.record.specs.declared.Pending.the-variants.{Idle}
 use Rattle.record.specs.declared.Record.{Record}
@@ -35,6 +36,7 @@ use Rattle.laws.specs.Stores.{length-stored}
 use Rattle.laws.specs.Operated.{Accepted, planAt}
 use Rattle.laws.specs.OperationsKept.{edition-laws}
 use Rattle.laws.specs.RecoverLaws.{recovered-edition, recovered-image}
+use Rattle.history.proofs.Finished.{finished-switch}
 use Rattle.history.proofs.Invariant.{recovered-is, idle-of, slots-of, size-of, cells-of, idle-same, own-geometry}
 use Rattle.rig_model.specs.Verdict.{lent, causeAt, recordAt}
 
@@ -47,6 +49,13 @@ module _ (L : Layout) (area : List ℕ) (r : Record) (e : recovered L 4 256 16 a
 
   pub at-image : recovered (imageLayout 4 256 area) 4 256 16 area ≡ some r
   at-image = subst⁻¹ (λ (x : Layout). recovered x 4 256 16 area ≡ some r) (recovered-image L 4 256 16 area r e) e
+
+-- and the record is not switched (02, R-13)
+pub recovered-off : (L : Layout) (area : List ℕ) (r : Record) → recovered L 4 256 16 area ≡ some r → r .switched ≡ false
+recovered-off L area r e = ap (λ (x : Record). x .switched) (recovered-is L 4 256 16 area r e)
+
+off-same : (r : Record) → r .switched ≡ false → unswitched r ≡ r
+off-same r off = ap (withSwitch r) (sym off)
 
 -- ---- an idle store
 
@@ -67,8 +76,11 @@ module _ (area : List ℕ) (r : Record) (cells : List ℕ) (y : Ready area r cel
   pub ready-idle : r .pending ≡ Idle
   ready-idle = idle-of (r .edition) 4 256 16 area r (y .recovers)
 
+  pub ready-off : unswitched r ≡ r
+  ready-off = off-same r (recovered-off (r .edition) area r (y .recovers))
+
   pub ready-genuine : Genuine (r .edition) area r cells
-  ready-genuine = record { recovers = own ∙ ap some (sym (idle-same r ready-idle)); rule = y .rule }
+  ready-genuine = record { recovers = own ∙ ap some (sym ready-off ∙ sym (idle-same r ready-idle)); rule = y .rule }
 
 -- ---- an operation under way: k of its stores are done, and some are left
 
@@ -90,15 +102,15 @@ entry-left : (L : Layout) (r : Record) (e : Entry) (s k : ℕ) → Left s k (lai
 unfolding leftGood isPending pick
 entry-left L r e s k = go (fitsHead L r e)
   where
-    go : (t : Bool) → Left s k (pick t (laidAppend L e) (laidHead L r e))
+    go : (t : Bool) → Left s k (pick t (laidAppend L e) (laidHead (newLayout r) r e))
     go true = (refl, refl)
     go false = (refl, refl)
 
 delete-left : (L : Layout) (r : Record) (log : List Placed) (key : Key) (s k : ℕ) → Left s k (laidDelete L r log key)
 unfolding leftGood isPending pick
-delete-left L r log key s k = go (noRoom r (entrySize L 0))
+delete-left L r log key s k = go (noRoom L r (entrySize L 0))
   where
-    go : (t : Bool) → Left s k (pick t (laidForget L r log key) (laidEntry L r (tombstoneEntry r key)))
+    go : (t : Bool) → Left s k (pick t (laidForget (newLayout r) r log key) (laidEntry L r (tombstoneEntry r key)))
     go true = (refl, refl)
     go false = entry-left L r (tombstoneEntry r key) s k
 
@@ -224,15 +236,24 @@ module _ (before : List ℕ) (idle : Record) (o : Operation) (k : ℕ) (area : L
       unfolding IndexStepped
       index-rule = subst (λ (x : ℕ). IndexStepped area′ cells cells′ (a .rec) x) e (exactly .index)
 
-      recovers-now : recovered (idle .edition) 4 256 16 area′ ≡ some (a .rec)
+      -- a store that is not switched stays so
+      fin-off : unswitched (finishedRecord (idle .edition) before idle o) ≡ finishedRecord (idle .edition) before idle o
+      fin-off =
+          off-same (finishedRecord (idle .edition) before idle o)
+          (finished-switch (idle .edition) before idle o ∙ recovered-off (idle .edition) before idle (g .ready .recovers))
+
+      abbrev fin-edition : Layout
+      fin-edition = finishedRecord (idle .edition) before idle o .edition
+
+      recovers-now : recovered fin-edition 4 256 16 area′ ≡ some (a .rec)
       recovers-now =
           sym
           (λ i.
-          recovered (idle .edition) (slots-of (idle .edition) 4 256 16 before idle (g .ready .recovers) i) (size-of (idle .edition) 4 256 16 before idle (g .ready .recovers) i)
+          recovered fin-edition (slots-of (idle .edition) 4 256 16 before idle (g .ready .recovers) i) (size-of (idle .edition) 4 256 16 before idle (g .ready .recovers) i)
           (cells-of (idle .edition) 4 256 16 before idle (g .ready .recovers) i) area′)
-          ∙ ap (recovered (idle .edition) (idle .slots) (idle .size) (idle .cells)) all-stored
+          ∙ ap (recovered fin-edition (idle .slots) (idle .size) (idle .cells)) all-stored
           ∙ edition-laws (idle .edition) .finish-recovers before idle o (g .accepted)
-          ∙ ap some (sym finished-rec)
+          ∙ ap some (fin-off ∙ sym finished-rec)
 
       ends : Ended before idle o area′ (a .rec) cells′
       ends =
@@ -243,7 +264,7 @@ module _ (before : List ℕ) (idle : Record) (o : Operation) (k : ℕ) (area : L
                   bytes =
                       subst⁻¹ Bytes (exactly .stores) (edition-laws (idle .edition) .plan-bytes before idle o (g .accepted) (suc k));
                   long = p .same-length ∙ g .ready .long;
-                  recovers = at-record (idle .edition) area′ (a .rec) recovers-now;
+                  recovers = at-record fin-edition area′ (a .rec) recovers-now;
                   rule = index-rule;
                 };
           }
@@ -306,7 +327,7 @@ module _ (o : Operation) (ty : Typed o) (area : List ℕ) (r : Record) (cells wo
     start-stores = ap (λ (x : Begun). x .start .answer) started-all
 
     accepts : Accepted (r .edition) area r o
-    accepts = record { lengths = lent; area-bytes = y .bytes; typed = ty; recovers = own-geometry (r .edition) 4 256 16 area r (y .recovers); no-cause = e }
+    accepts = record { lengths = lent; area-bytes = y .bytes; typed = ty; recovers = own-geometry (r .edition) 4 256 16 area r (y .recovers) ∙ ap some (sym (ready-off area r cells y)); no-cause = e }
 
     pub start-under : Under area r o (length (planAt (r .edition) area r o)) area (a .rec) cells work′
     unfolding begun stored

@@ -155,7 +155,7 @@ module _ (n s : ℕ) (area : List ℕ) (t : Tables) (k : Key) (g : geometryBad n
   abbrev here : Option Placed
   here = present (imageLog n s area) k
 
-  pub seek-refused : (c : Refusal) → imageOf (viewsOf area s) n ≡ Image.Refused c → Sought.Refused c ≡ sought its n s area t k
+  pub seek-refused : (c : Refusal) → imageOf false (viewsOf area s) n ≡ Image.Refused c → Sought.Refused c ≡ sought its n s area t k
   unfolding soughtAs imageFor
   seek-refused c e = ap (λ (x : Option Refusal). soughtAs s x here) (sym (go (firstCause found) refl e))
     where
@@ -167,12 +167,12 @@ module _ (n s : ℕ) (area : List ℕ) (t : Tables) (k : Key) (g : geometryBad n
           cause-skip (when (geometryBad n s (length area)) Refusal.Geometry) (found ++ soughtCauses (imageLog n s area) t k) g ∙
           first-some found (soughtCauses (imageLog n s area) t k) c (p ∙ ap some same)
 
-  module _ (L : Layout) (i : ℕ) (d : Digest) (top : Version) (sound : imageOf (viewsOf area s) n ≡ Image.Sound L i d top) where
-    one : SoundImage L (viewsOf area s) n i d top
-    one = sound-image L (viewsOf area s) n i d top sound
+  module _ (L : Layout) (i : ℕ) (d : Digest) (top : Version) (sound : imageOf false (viewsOf area s) n ≡ Image.Sound L i d top) where
+    one : SoundImage false L (viewsOf area s) n i d top
+    one = sound-image false L (viewsOf area s) n i d top sound
 
     pub seek-scans : AllScanned (viewsOf area s) (named (d .map)) n
-    seek-scans = image-scans L (viewsOf area s) n i d top one
+    seek-scans = image-scans false L (viewsOf area s) n i d top one
 
     pub seek-sound : (r : Sought) → r ≡ soughtIn s (logOf (viewsOf area s) (named (d .map)) n) t k → r ≡ sought its n s area t k
     seek-sound r given =

@@ -73,7 +73,7 @@ pub fn seek(n: u32, s: u32, area: &[u8], tables: Tables, key: Key) -> Sought
     if geometry_bad(n, s, area.len()) {
         return Sought::Refused(Refusal::Geometry);
     }
-    match look_at(n as usize, s as usize, area) {
+    match look_at(false, n as usize, s as usize, area) {
         Image::Refused(cause) => Sought::Refused(cause),
         Image::Sound {
             edition: _,

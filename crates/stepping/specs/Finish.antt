@@ -10,6 +10,7 @@ use Rattle.segment.specs.declared.Key.{Key}
 use Rattle.slot_map.specs.Bit.{withBit, less}
 use Rattle.record.specs.Answers.{withPending, storesLeft}
 use Rattle.record.specs.Committed.{committed}
+use Rattle.record.specs.Switch.{newLayout}
 use Rattle.record.specs.declared.Commit.{Commit}
 use Rattle.record.specs.declared.Pending.{Pending}
 use Rattle.record.specs.declared.Pending.the-variants.{Idle, Append, NewHead, Clean, Forget}
@@ -88,9 +89,11 @@ finishEntry L r done area cells slot offset =
 unfoldable pub finishAppend : Layout → Record → List ℕ → List ℕ → ℕ → After
 finishAppend L r area cells n = finishEntry L r (appendCommit r n) area cells (r .head) (r .end)
 
-unfoldable pub finishHead : Layout → Record → List ℕ → List ℕ → ℕ → ℕ → After
-finishHead L r area cells slot n =
-    finishEntry L r (headCommit r slot n (withBit (r .map) slot) (nextAfter r)) area cells slot (digestSize L)
+-- A new head has the edition that the record has for new heads, here and in what takes slots out of the log.
+unfoldable pub finishHead : Record → List ℕ → List ℕ → ℕ → ℕ → After
+finishHead r area cells slot n =
+    finishEntry (newLayout r) r (headCommit (newLayout r) r slot n (withBit (r .map) slot) (nextAfter r)) area cells slot
+    (digestSize (newLayout r))
 
 -- ---- the last step of a cleaning, and of a delete that cleans
 
@@ -122,11 +125,11 @@ finishRebuilt r area cells slot victims done version =
 -- A cleaning has no version of its own; a delete tells its own, and the next version goes up.
 unfoldable pub finishClean : Record → List ℕ → List ℕ → ℕ → ℕ → ℕ → After
 finishClean r area cells slot victims n =
-    finishRebuilt r area cells slot victims (headCommit r slot n (cleanMap r slot victims) (r .next)) 0
+    finishRebuilt r area cells slot victims (headCommit (newLayout r) r slot n (cleanMap r slot victims) (r .next)) 0
 
 unfoldable pub finishForget : Record → List ℕ → List ℕ → ℕ → ℕ → ℕ → After
 finishForget r area cells slot victims n =
-    finishRebuilt r area cells slot victims (headCommit r slot n (cleanMap r slot victims) (nextAfter r)) (r .next .0)
+    finishRebuilt r area cells slot victims (headCommit (newLayout r) r slot n (cleanMap r slot victims) (nextAfter r)) (r .next .0)
 
 -- ---- what comes after the store of a step
 
@@ -141,7 +144,7 @@ oneLess (Forget i v n k) = Forget i v n (k - 1)
 unfoldable pub finishWith : Layout → Record → List ℕ → List ℕ → Pending → After
 finishWith L r area cells Idle = unfit r cells
 finishWith L r area cells (Append n k) = finishAppend L r area cells n
-finishWith L r area cells (NewHead i n k) = finishHead L r area cells i n
+finishWith L r area cells (NewHead i n k) = finishHead r area cells i n
 finishWith L r area cells (Clean i v n k) = finishClean r area cells i v n
 finishWith L r area cells (Forget i v n k) = finishForget r area cells i v n
 

@@ -18,6 +18,7 @@ use Rattle.segment.specs.declared.Version.{Version}
 use Rattle.slot_map.specs.Bit.{withBit, less}
 use Rattle.record.specs.Answers.{withPending, storesLeft}
 use Rattle.record.specs.Committed.{committed}
+use Rattle.record.specs.Switch.{newLayout}
 use Rattle.record.specs.declared.Commit.{Commit}
 use Rattle.record.specs.declared.Pending.{Pending}
 use Rattle.record.specs.declared.Pending.the-variants.{Idle, Append, NewHead, Clean, Forget}
@@ -187,20 +188,22 @@ place-fits slot S o h l k =
 pub segment-in : (slots S slot a : ℕ) → a ≡ slots * S → slot < slots → slot * S + S ≤ a
 segment-in slots S slot a e h = omega (arith, mul-le-mul-right S h, suc-mul slot S)
 
-module _ (L : Layout) (r : Record) (area cells : List ℕ) (n : ℕ) where
+module _ (r : Record) (area cells : List ℕ) (n : ℕ) where
   pub append-goes :
-      {d : Commit} → d ≡ appendCommit r n → {a : After} → a ≡ finishEntry L r d area cells (r .head) (r .end) → a ≡ finishAppend L r area cells n
+      {d : Commit} → d ≡ appendCommit r n → {a : After} → a ≡ finishEntry (d .edition) r d area cells (r .head) (r .end) →
+      a ≡ finishAppend (r .edition) r area cells n
   unfolding finishAppend
-  append-goes ed e = e ∙ ap (λ (c : Commit). finishEntry L r c area cells (r .head) (r .end)) ed
+  append-goes ed e = e ∙ ap (λ (c : Commit). finishEntry (c .edition) r c area cells (r .head) (r .end)) ed
 
   pub head-goes :
-      (slot : ℕ) {m : ℕ} → m ≡ withBit (r .map) slot → {d : Commit} → d ≡ headCommit r slot n m (nextAfter r) → {b : ℕ} → b ≡ digestSize L →
-      {a : After} → a ≡ finishEntry L r d area cells slot b → a ≡ finishHead L r area cells slot n
+      (slot : ℕ) {m : ℕ} → m ≡ withBit (r .map) slot → {d : Commit} → d ≡ headCommit (newLayout r) r slot n m (nextAfter r) → {b : ℕ} →
+      b ≡ digestSize (d .edition) → {a : After} → a ≡ finishEntry (d .edition) r d area cells slot b → a ≡ finishHead r area cells slot n
   unfolding finishHead
-  head-goes slot em ed eb e =
+  head-goes slot {m} em {d} ed {b} eb e =
       e
-      ∙ ap₂ (λ (c : Commit) (k : ℕ). finishEntry L r c area cells slot k)
-      (ed ∙ ap (λ (j : ℕ). headCommit r slot n j (nextAfter r)) em) eb
+      ∙ ap (finishEntry (d .edition) r d area cells slot) eb
+      ∙ ap (λ (c : Commit). finishEntry (c .edition) r c area cells slot (digestSize (c .edition)))
+      (ed ∙ ap (λ (j : ℕ). headCommit (newLayout r) r slot n j (nextAfter r)) em)
 
 -- ---- a cleaning, and a delete that cleans
 
@@ -218,17 +221,17 @@ module _ (r : Record) (area cells : List ℕ) where
 
   module _ (slot victims n : ℕ) {w m : ℕ} (ew : w ≡ less (r .map) victims) (em : m ≡ withBit w slot) where
     -- d is what the code makes of the record's head and counters
-    new-commit : (next : Version) {d : Commit} → d ≡ headCommit r slot n m next → d ≡ headCommit r slot n (withBit (less (r .map) victims) slot) next
-    new-commit next ed = ed ∙ ap (λ (j : ℕ). headCommit r slot n j next) (em ∙ ap (λ (j : ℕ). withBit j slot) ew)
+    new-commit : (next : Version) {d : Commit} → d ≡ headCommit (newLayout r) r slot n m next → d ≡ headCommit (newLayout r) r slot n (withBit (less (r .map) victims) slot) next
+    new-commit next ed = ed ∙ ap (λ (j : ℕ). headCommit (newLayout r) r slot n j next) (em ∙ ap (λ (j : ℕ). withBit j slot) ew)
 
     pub clean-goes :
-        {d : Commit} → d ≡ headCommit r slot n m (r .next) → {a : After} → a ≡ finishRebuilt r area cells slot victims d 0 →
+        {d : Commit} → d ≡ headCommit (newLayout r) r slot n m (r .next) → {a : After} → a ≡ finishRebuilt r area cells slot victims d 0 →
         a ≡ finishClean r area cells slot victims n
     unfolding finishClean
     clean-goes ed e = e ∙ ap (λ (c : Commit). finishRebuilt r area cells slot victims c 0) (new-commit (r .next) ed)
 
     pub forget-goes :
-        {d : Commit} → d ≡ headCommit r slot n m (nextAfter r) → {a : After} → a ≡ finishRebuilt r area cells slot victims d (r .next .0) →
+        {d : Commit} → d ≡ headCommit (newLayout r) r slot n m (nextAfter r) → {a : After} → a ≡ finishRebuilt r area cells slot victims d (r .next .0) →
         a ≡ finishForget r area cells slot victims n
     unfolding finishForget
     forget-goes ed e = e ∙ ap (λ (c : Commit). finishRebuilt r area cells slot victims c (r .next .0)) (new-commit (nextAfter r) ed)
@@ -288,7 +291,7 @@ module _ (L : Layout) (r : Record) (area cells : List ℕ) where
   unfolding finishWith
   with-append e h = h ∙ sym (ap (finishWith L r area cells) e)
 
-  pub with-head : {i n k : ℕ} → r .pending ≡ NewHead i n k → {a : After} → a ≡ finishHead L r area cells i n → a ≡ finishWith L r area cells (r .pending)
+  pub with-head : {i n k : ℕ} → r .pending ≡ NewHead i n k → {a : After} → a ≡ finishHead r area cells i n → a ≡ finishWith L r area cells (r .pending)
   unfolding finishWith
   with-head e h = h ∙ sym (ap (finishWith L r area cells) e)
 

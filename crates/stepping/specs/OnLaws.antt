@@ -19,7 +19,6 @@ use Rattle.record.specs.declared.TellAnswer.{TellAnswer}
 use Rattle.model.specs.Causes.{firstCause}
 use Rattle.model.specs.Refused.{stepCauses}
 use Rattle.model.specs.Promises.{StepPromise, lentLengths}
-use Rattle.laws.specs.Entering.{Roomy}
 use Rattle.telling.specs.Agree.{agreesWith, testedStore}
 use Rattle.telling.specs.Next.{nextStore, PendingIn}
 use Rattle.telling.specs.NextLaws.{next-inside}
@@ -33,7 +32,7 @@ use Rattle.stepping.specs.StepLaws.{pending-not-idle, refused-promise, r
 same-refusal : {c d : Refusal} → TellAnswer.Refused d ≡ TellAnswer.Refused c → d ≡ c
 same-refusal e = cc
 
-module _ (L : Layout) (roomy : Roomy L) (r : Record) (area cells work : List ℕ) where
+module _ (L : Layout) (r : Record) (area cells work : List ℕ) where
   abbrev cause : Option Refusal
   cause = firstCause (stepCauses L r (lentLengths area cells work))
 
@@ -62,8 +61,8 @@ module _ (L : Layout) (roomy : Roomy L) (r : Record) (area cells work : List ℕ
               absurd (omega arith)
           by Bad t =
               let w : BadRecord ≡ c = same-refusal (sym (ap Unless f ∙ ap toldStore t) ∙ e) in (
-                bad-promise L roomy r area cells work f t,
-                bad-tested L roomy r area cells work f t (ap (refusedStep r) (sym w)),
+                bad-promise L r area cells work f t,
+                bad-tested L r area cells work f t (ap (refusedStep r) (sym w)),
               )
 
   -- a store that is found is made
@@ -85,7 +84,7 @@ module _ (L : Layout) (roomy : Roomy L) (r : Record) (area cells work : List ℕ
               let place : q ≡ p = cc in
               let byte : c ≡ b = cc in
               let at : testedStore L (length area) work r ≡ At p b = t ∙ ap (λ (n : ℕ). At n c) place ∙ ap (At p) byte in
-              (stored-promise L roomy r area cells work f p b at s same, stored-tested L roomy r area cells work f p b at s)
+              (stored-promise L r area cells work f p b at s same, stored-tested L r area cells work f p b at s)
           by Bad t =
               let w : TellAnswer.Refused BadRecord ≡ TellAnswer.At p b = sym (ap Unless f ∙ ap toldStore t) ∙ e in
               let z : _≡_ {A = ℕ} 0 1 = cc in
@@ -93,7 +92,7 @@ module _ (L : Layout) (roomy : Roomy L) (r : Record) (area cells work : List ℕ
 
 -- ---- behind the test of range and lengths
 
-module _ (L : Layout) (roomy : Roomy L) (r : Record) (area cells work : List ℕ) (fit : fitsLent L r (length area) (length cells) ≡ true) where
+module _ (L : Layout) (r : Record) (area cells work : List ℕ) (fit : fitsLent L r (length area) (length cells) ≡ true) where
   own : length cells ≡ r .cells
   own = lent L r (length area) (length cells) fit .index-own
 
@@ -141,7 +140,7 @@ module _ (L : Layout) (roomy : Roomy L) (r : Record) (area cells work : List ℕ
                 let l = lent L r (length area) (length cells) fit in
                 let inside = next-inside (length area) work r q c (l .head-below) (l .area-own) (r .pending) n in
                 record {
-                  left = l .left-some (λ idle. pending-not-idle L roomy r area cells work f idle);
+                  left = l .left-some (λ idle. pending-not-idle L r area cells work f idle);
                   inside = inside .0;
                   place = omega (arith, inside .1);
                   agrees = t;

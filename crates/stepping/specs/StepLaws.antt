@@ -15,6 +15,7 @@ use Rattle.segment.specs.Entry.{Entry, Found, entry, end, damage}
 use Rattle.segment.specs.declared.Key.{Key}
 use Rattle.record.specs.Answers.{stepSaid, storesLeft, withPending}
 use Rattle.record.specs.Committed.{committed}
+use Rattle.record.specs.Switch.{newLayout}
 use Rattle.record.specs.RangeLaws.{Lent, lent}
 use Rattle.record.specs.declared.Commit.{Commit}
 use Rattle.record.specs.declared.Pending.{Pending}
@@ -34,8 +35,7 @@ use Rattle.laws.specs.Passed.{step-passed}
 use Rattle.laws.specs.SaidLaws.{step-says}
 use Rattle.laws.specs.Stores.{stored-next, stored-all}
 use Rattle.laws.specs.Operated.{Accepted}
-use Rattle.laws.specs.Entering.{Roomy}
-use Rattle.laws.specs.OperationsKept.{operation-laws}
+use Rattle.laws.specs.OperationsKept.{edition-laws}
 use Rattle.index.specs.declared.Built.{Built}
 use Rattle.telling.specs.Agree.{testedStore}
 use Rattle.stepping.specs.Tested.{StepTested}
@@ -100,12 +100,12 @@ module _ (L : Layout) (idle : Record) (log : List Placed) where
   abbrev CountsDown : Laid → Type 0
   CountsDown l = (k : ℕ) → (storesLeft (l .pending k) ≡ k) × (oneLess (l .pending k) ≡ l .pending (k - 1))
 
-  entry-counts : (t : Bool) (e : Entry) → CountsDown (pick t (laidAppend L e) (laidHead L idle e))
+  entry-counts : (t : Bool) (e : Entry) → CountsDown (pick t (laidAppend L e) (laidHead (newLayout idle) idle e))
   unfolding oneLess pick
   entry-counts true e k = (refl, refl)
   entry-counts false e k = (refl, refl)
 
-  delete-counts : (t : Bool) (key : Key) → CountsDown (pick t (laidForget L idle log key) (laidEntry L idle (tombstoneEntry idle key)))
+  delete-counts : (t : Bool) (key : Key) → CountsDown (pick t (laidForget (newLayout idle) idle log key) (laidEntry L idle (tombstoneEntry idle key)))
   unfolding oneLess pick
   delete-counts true key k = (refl, refl)
   delete-counts false key k = entry-counts (fitsHead L idle (tombstoneEntry idle key)) (tombstoneEntry idle key) k
@@ -114,7 +114,7 @@ module _ (L : Layout) (idle : Record) (log : List Placed) where
   unfolding laid oneLess
   counts-down (write key value) =
       entry-counts (fitsHead L idle (writtenEntry idle key value)) (writtenEntry idle key value)
-  counts-down (delete key) = delete-counts (noRoom idle (entrySize L 0)) key
+  counts-down (delete key) = delete-counts (noRoom L idle (entrySize L 0)) key
   counts-down (clean victims) = λ k. (refl, refl)
 
 -- ---- behind the store a step is refused with 4 alone, and hands the record back
@@ -133,17 +133,17 @@ module _ (r : Record) where
   answered-late done version counts Built.TooMany = λ c f. refl
 
 module _ (L : Layout) (r : Record) (area cells : List ℕ) where
-  found-late : (done : Commit) (slot place : ℕ) (f : Found) → Late r (foundIn L r done area cells slot place f .stepped)
+  found-late : (W : Layout) (done : Commit) (slot place : ℕ) (f : Found) → Late r (foundIn W r done area cells slot place f .stepped)
   unfolding foundIn
-  found-late done slot place (entry e) = answered-late r done (r .next .0) _ _
-  found-late done slot place end = λ c f. refl
-  found-late done slot place damage = λ c f. refl
+  found-late W done slot place (entry e) = answered-late r done (r .next .0) _ _
+  found-late W done slot place end = λ c f. refl
+  found-late W done slot place damage = λ c f. refl
 
   finish-late : (p : Pending) → Late r (finishWith L r area cells p .stepped)
   unfolding finishWith finishAppend finishHead finishClean finishForget finishEntry
   finish-late Idle = λ c f. refl
-  finish-late (Append n k) = found-late _ _ _ _
-  finish-late (NewHead i n k) = found-late _ _ _ _
+  finish-late (Append n k) = found-late _ _ _ _ _
+  finish-late (NewHead i n k) = found-late _ _ _ _ _
   finish-late (Clean i v n k) = answered-late r _ 0 _ _
   finish-late (Forget i v n k) = answered-late r _ (r .next .0) _ _
 
@@ -178,17 +178,17 @@ module _ (r : Record) where
   answered-going done version counts Built.TooMany = λ k f. absurd (refused-left r BadRecord k f)
 
 module _ (L : Layout) (r : Record) (area cells : List ℕ) where
-  found-going : (done : Commit) (slot place : ℕ) (f : Found) → Going r (foundIn L r done area cells slot place f .stepped)
+  found-going : (W : Layout) (done : Commit) (slot place : ℕ) (f : Found) → Going r (foundIn W r done area cells slot place f .stepped)
   unfolding foundIn
-  found-going done slot place (entry e) = answered-going r done (r .next .0) _ _
-  found-going done slot place end = λ k f. absurd (refused-left r BadRecord k f)
-  found-going done slot place damage = λ k f. absurd (refused-left r BadRecord k f)
+  found-going W done slot place (entry e) = answered-going r done (r .next .0) _ _
+  found-going W done slot place end = λ k f. absurd (refused-left r BadRecord k f)
+  found-going W done slot place damage = λ k f. absurd (refused-left r BadRecord k f)
 
   finish-going : (p : Pending) → Going r (finishWith L r area cells p .stepped)
   unfolding finishWith finishAppend finishHead finishClean finishForget finishEntry
   finish-going Idle = λ k f. absurd (refused-left r BadRecord k f)
-  finish-going (Append n k) = found-going _ _ _ _
-  finish-going (NewHead i n k) = found-going _ _ _ _
+  finish-going (Append n k) = found-going _ _ _ _ _
+  finish-going (NewHead i n k) = found-going _ _ _ _ _
   finish-going (Clean i v n k) = answered-going r _ 0 _ _
   finish-going (Forget i v n k) = answered-going r _ (r .next .0) _ _
 
@@ -208,7 +208,7 @@ module _ (L : Layout) (r : Record) (area cells : List ℕ) where
 
 -- ---- a step of a started operation
 
-module _ (L : Layout) (roomy : Roomy L) (r : Record) (area cells work : List ℕ)
+module _ (L : Layout) (r : Record) (area cells work : List ℕ)
     (first : firstCause (stepCauses L r (lentLengths area cells work)) ≡ none) where
   step-fits : Lent L r (length area) (length cells)
   step-fits = lent L r (length area) (length cells) (not-false _ (step-passed L r (lentLengths area cells work) first .record-good))
@@ -243,13 +243,13 @@ module _ (L : Layout) (roomy : Roomy L) (r : Record) (area cells work : List ℕ
     plan = planFor L (s .idle) (logNow (s .before) (s .idle)) (s .operation)
 
     acc : Accepted L (s .before) (s .idle) (s .operation)
-    acc = accepted L (operation-laws L roomy) area r work s
+    acc = accepted L (edition-laws L) area r work s
 
     turn : testedStore L (length area) work r ≡ atOf (getD plan (s .since) (0, 0))
-    turn = tested-turn L (operation-laws L roomy) r area work work-long s
+    turn = tested-turn L (edition-laws L) r area work work-long s
 
     no-bad : testedStore L (length area) work r ≡ Bad → ⊥
-    no-bad = never-bad L (operation-laws L roomy) r area work work-long s
+    no-bad = never-bad L (edition-laws L) r area work work-long s
 
     module _ (p b : ℕ) (at : testedStore L (length area) work r ≡ At p b) where
       stores-next : set area p b ≡ stored before (take (suc (s .since)) plan)
@@ -267,7 +267,7 @@ module _ (L : Layout) (roomy : Roomy L) (r : Record) (area cells work : List ℕ
         rule-idle =
             subst (λ (l : List Placed). IndexRule (s .idle .size) l cells)
             (ap (λ (x : List ℕ). logNow x idle) (s .area-now)
-            ∙ operation-laws L roomy .prefix-log before idle (s .operation) acc (s .since) (s .some-left))
+            ∙ edition-laws L .prefix-log before idle (s .operation) acc (s .since) (s .some-left))
             (subst (λ (x : Record). IndexRule (x .size) (logNow area x) cells) (s .record-now) (g .rule))
 
         cells-idle : length cells ≡ s .idle .cells
@@ -320,17 +320,17 @@ module _ (L : Layout) (roomy : Roomy L) (r : Record) (area cells work : List ℕ
                 stores-next ∙ ap (λ (n : ℕ). stored before (take n plan)) last ∙ stored-all before plan
 
             all :
-                Ends L (set area p b) (finishedRecord L before idle (s .operation)) (toldVersion idle (s .operation))
+                Ends (set area p b) (finishedRecord L before idle (s .operation)) (toldVersion idle (s .operation))
                 (finishWith L (with-left (length plan - s .since)) (set area p b) cells (laid L idle log (s .operation) .pending (length plan - s .since)))
             all =
                 subst
                 (λ (x : List ℕ).
-                Ends L x (finishedRecord L before idle (s .operation)) (toldVersion idle (s .operation))
+                Ends x (finishedRecord L before idle (s .operation)) (toldVersion idle (s .operation))
                 (finishWith L (with-left (length plan - s .since)) x cells (laid L idle log (s .operation) .pending (length plan - s .since))))
                 (sym whole)
-                (operation-ends L roomy before cells idle (s .operation) acc cells-idle rule-idle (length plan - s .since))
+                (operation-ends L before cells idle (s .operation) acc cells-idle rule-idle (length plan - s .since))
 
-            gives : {a : After} → Ends L (set area p b) (finishedRecord L before idle (s .operation)) (toldVersion idle (s .operation)) a → Gives a zero
+            gives : {a : After} → Ends (set area p b) (finishedRecord L before idle (s .operation)) (toldVersion idle (s .operation)) a → Gives a zero
             gives {a} w = (
               w .answers,
               subst (λ (x : Record). IndexRule (x .size) (logNow (set area p b) x) (a .cells)) (ap (λ (y : Stepped). y .rec) (sym (w .answers)))

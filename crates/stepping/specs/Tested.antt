@@ -18,7 +18,7 @@ use Rattle.model.specs.Causes.{firstCause}
 use Rattle.model.specs.Refused.{stepCauses}
 use Rattle.model.specs.Promises.{StepRefused, lentLengths}
 use Rattle.telling.specs.Agree.{agreesWith, testedStore}
-use Rattle.telling.specs.AgreeLaws.{takesVersion, takesNumber, version-disagrees, number-disagrees}
+use Rattle.telling.specs.AgreeLaws.{takesVersion, entryLayout, takesNumber, version-disagrees, number-disagrees}
 use Rattle.telling.specs.declared.NextStore.the-variants.{At, Bad}
 
 -- Whatever the record: where one of these tests fails the step is refused with 4 and changes nothing, and where they are passed it makes
@@ -44,7 +44,7 @@ module _ (L : Layout) (r : Record) (area area′ cells cells′ work : List ℕ)
   unfolding testedStore
   disagrees-refused e = tested .before-store first (pick-false _ _ _ e)
 
-  pub versions-refused : takesVersion (r .pending) ≡ true → versionLimit L ≤ r .next .0 → StepRefused r area area′ cells cells′ a BadRecord
+  pub versions-refused : takesVersion (r .pending) ≡ true → versionLimit (entryLayout L r (r .pending)) ≤ r .next .0 → StepRefused r area area′ cells cells′ a BadRecord
   versions-refused t h = disagrees-refused (version-disagrees L r (r .pending) t h)
 
   pub numbers-refused : takesNumber (r .pending) ≡ true → numberLimit ≤ r .digest .0 → StepRefused r area area′ cells cells′ a BadRecord

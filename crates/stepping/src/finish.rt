@@ -13,6 +13,7 @@ use record::Refusal;
 use record::StepAnswer;
 use record::Stepped;
 use record::committed;
+use record::new_edition;
 use record::stores_left;
 use record::with_pending;
 use segment::DigestNumber;
@@ -32,12 +33,12 @@ ghost use lib.ListN.{length, take};
 ghost use Rattle.index.specs.Build.{Rebuilt, built};
 ghost use Rattle.segment.specs.Area.{segmentOf};
 ghost use Rattle.segment.specs.Entry.{entryAt, answer};
-ghost use Rattle.segment.specs.Layout.{digestSize};
 ghost use Rattle.counting.specs.Counting.{renewedAt};
 ghost use Rattle.model.specs.Operations.{appendCommit, headCommit};
 ghost use Rattle.stepping.specs.Finish.{refusedStep, keysAfter, lostBy, countsAfter, answeredWith, entryIn, finishEntry, finishAppend, finishHead, finishRebuilt, finishClean, finishForget, oneLess, finishWith, advanced};
 ghost use Rattle.record.specs.Answers.{storesLeft};
-ghost use Rattle.record.specs.Range.{countsGood};
+ghost use Rattle.record.specs.Range.{countsGood, mostPresent};
+ghost use Rattle.record.specs.Switch.{newLayout};
 ghost use Rattle.telling.specs.Next.{PendingIn};
 ghost use Rattle.telling.specs.Agree.{agreesWith};
 
@@ -51,14 +52,16 @@ pub fn refused(rec: Record, cause: Refusal) -> Stepped
     }
 }
 
-// `count` more bytes in the head, and the next version taken.
+// `count` more bytes in the head, whose edition stays, and the next version taken.
 fn append_commit(rec: Record, count: u32) -> Commit
     requires { ⌜ (rec .end + count < 4294967296) × (rec .next .0 < 18446744073709551615) ⌝ }
     ensures { λ r. ⌜ r ≡ appendCommit rec count ⌝ }
 {
+    let edition = rec.edition;
     let number = rec.digest;
     let next = rec.next;
     Commit {
+        edition,
         head: rec.head,
         end: rec.end + count,
         digest: number,
@@ -67,13 +70,15 @@ fn append_commit(rec: Record, count: u32) -> Commit
     }
 }
 
-// A new head of `count` bytes in a slot, with this map and this next version.
+// A new head of `count` bytes in a slot, in the edition that new heads have, with this map and this next version.
 fn head_commit(rec: Record, slot: u32, count: u32, map: u32, next: Version) -> Commit
     requires { ⌜ rec .digest .0 < 4294967295 ⌝ }
-    ensures { λ r. ⌜ r ≡ headCommit rec slot count map next ⌝ }
+    ensures { λ r. ⌜ r ≡ headCommit (newLayout rec) rec slot count map next ⌝ }
 {
+    let edition = new_edition(rec);
     let number = rec.digest;
     Commit {
+        edition,
         head: slot,
         end: count,
         digest: DigestNumber(number.0 + 1),
@@ -113,7 +118,7 @@ fn entry_counts(rec: Record, area: &[u8], answer: Inserted, slot: u32, bytes: us
         (0 < rec .size)
         × (rec .size ≤ 2048)
         × (bytes ≤ 2048)
-        × (countsGood (rec .size - digestSize (rec .edition)) (rec .counts) ≡ true)
+        × (countsGood (mostPresent (rec .size)) (rec .counts) ≡ true)
         ⌝ }
     ensures { λ r. ⌜ r ≡ countsAfter rec (now (area .entry)) answer slot bytes ⌝ }
 {
@@ -156,7 +161,7 @@ fn put_entry(
         (0 < rec .size)
         × (rec .size ≤ 2048)
         × (bytes ≤ 2048)
-        × (countsGood (rec .size - digestSize (rec .edition)) (rec .counts) ≡ true)
+        × (countsGood (mostPresent (rec .size)) (rec .counts) ≡ true)
         × (place < 4294967295)
         ⌝ }
     ensures { λ r.
@@ -181,7 +186,7 @@ fn stands_in(edition: Edition, size: usize, area: &[u8], slot: usize, offset: us
 }
 
 // The entry at an offset of a slot goes into the index. The reader gets the slot's segment, which is cut from the area at
-// slot × size.
+// slot × size; after the commit this is the head, so that it has the commit's edition.
 fn finish_entry(
     rec: Record,
     done: Commit,
@@ -196,11 +201,11 @@ fn finish_entry(
         × (rec .size ≤ 2048)
         × (offset ≤ 2048)
         × (slot * rec .size + rec .size ≤ length (now area))
-        × (countsGood (rec .size - digestSize (rec .edition)) (rec .counts) ≡ true)
+        × (countsGood (mostPresent (rec .size)) (rec .counts) ≡ true)
         ⌝ }
-    ensures { λ r. ⌜ record { stepped = r; cells = now (index .exit) } ≡ finishEntry (rec .edition) rec done (now (area .entry)) (now (index .entry)) slot offset ⌝ }
+    ensures { λ r. ⌜ record { stepped = r; cells = now (index .exit) } ≡ finishEntry (done .edition) rec done (now (area .entry)) (now (index .entry)) slot offset ⌝ }
 {
-    let edition = rec.edition;
+    let edition = done.edition;
     let size = rec.size as usize;
     let place = slot as usize * size + offset;
     match stands_in(edition, size, area, slot as usize, offset) {
@@ -230,7 +235,7 @@ fn finish_append(rec: Record, area: &[u8], index: &mut [u32], count: u32) -> Ste
         × (rec .end + count ≤ rec .size)
         × (rec .next .0 < 18446744073709551615)
         × (0 < rec .size)
-        × (countsGood (rec .size - digestSize (rec .edition)) (rec .counts) ≡ true)
+        × (countsGood (mostPresent (rec .size)) (rec .counts) ≡ true)
         ⌝ }
     ensures { λ r. ⌜ record { stepped = r; cells = now (index .exit) } ≡ finishAppend (rec .edition) rec (now (area .entry)) (now (index .entry)) count ⌝ }
 {
@@ -248,14 +253,14 @@ fn finish_head(rec: Record, area: &[u8], index: &mut [u32], slot: u32, count: u3
         × (rec .next .0 < 18446744073709551615)
         × (rec .digest .0 < 4294967295)
         × (0 < rec .size)
-        × (countsGood (rec .size - digestSize (rec .edition)) (rec .counts) ≡ true)
+        × (countsGood (mostPresent (rec .size)) (rec .counts) ≡ true)
         ⌝ }
-    ensures { λ r. ⌜ record { stepped = r; cells = now (index .exit) } ≡ finishHead (rec .edition) rec (now (area .entry)) (now (index .entry)) slot count ⌝ }
+    ensures { λ r. ⌜ record { stepped = r; cells = now (index .exit) } ≡ finishHead rec (now (area .entry)) (now (index .entry)) slot count ⌝ }
 {
-    let edition = rec.edition;
     let next = rec.next;
     let map = with_slot(rec.map, slot);
     let done = head_commit(rec, slot, count, map, Version(next.0 + 1));
+    let edition = done.edition;
     finish_entry(rec, done, area, index, slot, digest_size(edition))
 }
 
@@ -444,7 +449,7 @@ fn finish(rec: Record, area: &[u8], index: &mut [u32]) -> Stepped
         × PendingIn rec (rec .pending)
         × (agreesWith (rec .edition) rec (rec .pending) ≡ true)
         × (0 < rec .size)
-        × (countsGood (rec .size - digestSize (rec .edition)) (rec .counts) ≡ true)
+        × (countsGood (mostPresent (rec .size)) (rec .counts) ≡ true)
         ⌝ }
     ensures { λ r. ⌜ record { stepped = r; cells = now (index .exit) } ≡ finishWith (rec .edition) rec (now (area .entry)) (now (index .entry)) (rec .pending) ⌝ }
 {
@@ -482,7 +487,7 @@ pub fn advance(rec: Record, area: &[u8], index: &mut [u32]) -> Stepped
         × PendingIn rec (rec .pending)
         × (agreesWith (rec .edition) rec (rec .pending) ≡ true)
         × (0 < rec .size)
-        × (countsGood (rec .size - digestSize (rec .edition)) (rec .counts) ≡ true)
+        × (countsGood (mostPresent (rec .size)) (rec .counts) ≡ true)
         ⌝ }
     ensures { λ r. ⌜ record { stepped = r; cells = now (index .exit) } ≡ advanced (rec .edition) rec (now (area .entry)) (now (index .entry)) ⌝ }
 {

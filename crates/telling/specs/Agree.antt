@@ -7,6 +7,7 @@ use lib.Dec.{ltb, leb}
 use Rattle.segment.specs.Choice.{pick, both}
 use Rattle.segment.specs.Layout.{Layout, entrySize, digestSize, versionLimit, numberLimit}
 use Rattle.slot_map.specs.Bit.{named, within}
+use Rattle.record.specs.Switch.{newLayout}
 use Rattle.record.specs.declared.Pending.{Pending}
 use Rattle.record.specs.declared.Pending.the-variants.{Idle, Append, NewHead, Clean, Forget}
 use Rattle.record.specs.declared.Record.{Record}
@@ -30,13 +31,13 @@ victimsAgree L r v n = both (leb (digestSize L) n) (both (ltb 0 v) (within v (r 
 unfoldable pub forgetAgrees : Layout → Record → ℕ → ℕ → Bool
 forgetAgrees L r v n = both (ltb (r .next .0) (versionLimit L)) (victimsAgree L r v n)
 
--- The pending operation agrees with the record, as far as these two tell.
+-- The pending operation agrees with the record, as far as these two tell: an append in the head's edition L, a new head in its own.
 unfoldable pub agreesWith : Layout → Record → Pending → Bool
 agreesWith L r Idle = false
 agreesWith L r (Append n k) = entryAgrees L r 0 n
-agreesWith L r (NewHead i n k) = both (slotAgrees r i) (entryAgrees L r (digestSize L) n)
-agreesWith L r (Clean i v n k) = both (slotAgrees r i) (victimsAgree L r v n)
-agreesWith L r (Forget i v n k) = both (slotAgrees r i) (forgetAgrees L r v n)
+agreesWith L r (NewHead i n k) = both (slotAgrees r i) (entryAgrees (newLayout r) r (digestSize (newLayout r)) n)
+agreesWith L r (Clean i v n k) = both (slotAgrees r i) (victimsAgree (newLayout r) r v n)
+agreesWith L r (Forget i v n k) = both (slotAgrees r i) (forgetAgrees (newLayout r) r v n)
 
 -- the next store, where all the tests are passed
 unfoldable pub testedStore : Layout → ℕ → List ℕ → Record → NextStore

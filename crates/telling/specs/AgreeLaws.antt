@@ -9,7 +9,7 @@ use lib.ListN.{length}
 use borrow.Author.Tests.{lt-ltb, le-ltb, le-leb, lt-leb, ltb-true, leb-true, not-false, not-true}
 use Rattle.segment.specs.Choice.{pick, pick-true, pick-false, both, both-left, both-right, both-true, both-false-left, both-false-right}
 use Rattle.segment.specs.Layout.{Layout, entrySize, digestSize, goodVersion, versionLimit, numberLimit}
-use Rattle.segment.specs.Entry.{Entry, sizeOf}
+use Rattle.segment.specs.Entry.{Entry, sizeOf, WellFormed}
 use Rattle.segment.specs.declared.Key.{Key}
 use Rattle.segment.specs.declared.Version.{Version}
 use Rattle.slot_map.specs.Bit.{named, within}
@@ -17,6 +17,7 @@ use Rattle.slot_map.specs.BitLaws.{clear-named}
 use Rattle.slot_map.specs.NextLaws.{next-below, next-clear}
 use Rattle.record.specs.Answers.{withPending}
 use Rattle.record.specs.RangeLaws.{Lent}
+use Rattle.record.specs.Switch.{newLayout}
 use Rattle.record.specs.declared.Pending.{Pending}
 use Rattle.record.specs.declared.Pending.the-variants.{Idle, Append, NewHead, Clean, Forget}
 use Rattle.record.specs.declared.Record.{Record}
@@ -86,19 +87,19 @@ module _ (L : Layout) (r : Record) where
   agree-append e h = h ∙ sym (ap (agreesWith L r) e)
 
   pub agree-head :
-      {i n k : ℕ} → r .pending ≡ NewHead i n k → {t : Bool} → t ≡ both (slotAgrees r i) (entryAgrees L r (digestSize L) n) →
+      {i n k : ℕ} → r .pending ≡ NewHead i n k → {t : Bool} → t ≡ both (slotAgrees r i) (entryAgrees (newLayout r) r (digestSize (newLayout r)) n) →
       t ≡ agreesWith L r (r .pending)
   unfolding agreesWith
   agree-head e h = h ∙ sym (ap (agreesWith L r) e)
 
   pub agree-clean :
-      {i v n k : ℕ} → r .pending ≡ Clean i v n k → {t : Bool} → t ≡ both (slotAgrees r i) (victimsAgree L r v n) →
+      {i v n k : ℕ} → r .pending ≡ Clean i v n k → {t : Bool} → t ≡ both (slotAgrees r i) (victimsAgree (newLayout r) r v n) →
       t ≡ agreesWith L r (r .pending)
   unfolding agreesWith
   agree-clean e h = h ∙ sym (ap (agreesWith L r) e)
 
   pub agree-forget :
-      {i v n k : ℕ} → r .pending ≡ Forget i v n k → {t : Bool} → t ≡ both (slotAgrees r i) (forgetAgrees L r v n) →
+      {i v n k : ℕ} → r .pending ≡ Forget i v n k → {t : Bool} → t ≡ both (slotAgrees r i) (forgetAgrees (newLayout r) r v n) →
       t ≡ agreesWith L r (r .pending)
   unfolding agreesWith
   agree-forget e h = h ∙ sym (ap (agreesWith L r) e)
@@ -143,23 +144,23 @@ module _ (L : Layout) (r : Record) (e : agreesWith L r (r .pending) ≡ true) wh
   unfolding agreesWith
   append-agrees {n} q = entry-in L r 0 n (sym (ap (agreesWith L r) q) ∙ e)
 
-  pub head-agrees : {i n k : ℕ} → r .pending ≡ NewHead i n k → SlotIn r i × EntryIn L r (digestSize L) n
+  pub head-agrees : {i n k : ℕ} → r .pending ≡ NewHead i n k → SlotIn r i × EntryIn (newLayout r) r (digestSize (newLayout r)) n
   unfolding agreesWith
   head-agrees {i} {n} q =
-      let w : both (slotAgrees r i) (entryAgrees L r (digestSize L) n) ≡ true = sym (ap (agreesWith L r) q) ∙ e in
-      (slot-in r i (both-left _ _ w), entry-in L r (digestSize L) n (both-right _ _ w))
+      let w : both (slotAgrees r i) (entryAgrees (newLayout r) r (digestSize (newLayout r)) n) ≡ true = sym (ap (agreesWith L r) q) ∙ e in
+      (slot-in r i (both-left _ _ w), entry-in (newLayout r) r (digestSize (newLayout r)) n (both-right _ _ w))
 
   pub clean-agrees : {i v n k : ℕ} → r .pending ≡ Clean i v n k → SlotIn r i
   unfolding agreesWith
   clean-agrees {i} {v} {n} q =
-      let w : both (slotAgrees r i) (victimsAgree L r v n) ≡ true = sym (ap (agreesWith L r) q) ∙ e in
+      let w : both (slotAgrees r i) (victimsAgree (newLayout r) r v n) ≡ true = sym (ap (agreesWith L r) q) ∙ e in
       slot-in r i (both-left _ _ w)
 
-  pub forget-agrees : {i v n k : ℕ} → r .pending ≡ Forget i v n k → SlotIn r i × (r .next .0 < versionLimit L)
+  pub forget-agrees : {i v n k : ℕ} → r .pending ≡ Forget i v n k → SlotIn r i × (r .next .0 < versionLimit (newLayout r))
   unfolding agreesWith forgetAgrees
   forget-agrees {i} {v} {n} q =
-      let w : both (slotAgrees r i) (forgetAgrees L r v n) ≡ true = sym (ap (agreesWith L r) q) ∙ e in
-      (slot-in r i (both-left _ _ w), ltb-true (r .next .0) (versionLimit L) (both-left _ _ (both-right _ _ w)))
+      let w : both (slotAgrees r i) (forgetAgrees (newLayout r) r v n) ≡ true = sym (ap (agreesWith L r) q) ∙ e in
+      (slot-in r i (both-left _ _ w), ltb-true (r .next .0) (versionLimit (newLayout r)) (both-left _ _ (both-right _ _ w)))
 
 -- ---- so a spent counter is found out before the store
 
@@ -171,6 +172,14 @@ takesVersion (NewHead i n k) = true
 takesVersion (Clean i v n k) = false
 takesVersion (Forget i v n k) = true
 
+-- in the edition of its entries, which for an append is the head's
+unfoldable pub entryLayout : Layout → Record → Pending → Layout
+entryLayout L r Idle = L
+entryLayout L r (Append n k) = L
+entryLayout L r (NewHead i n k) = newLayout r
+entryLayout L r (Clean i v n k) = newLayout r
+entryLayout L r (Forget i v n k) = newLayout r
+
 unfoldable pub takesNumber : Pending → Bool
 takesNumber Idle = false
 takesNumber (Append n k) = false
@@ -179,13 +188,13 @@ takesNumber (Clean i v n k) = true
 takesNumber (Forget i v n k) = true
 
 module _ (L : Layout) (r : Record) where
-  pub version-disagrees : (p : Pending) → takesVersion p ≡ true → versionLimit L ≤ r .next .0 → agreesWith L r p ≡ false
-  unfolding takesVersion agreesWith
+  pub version-disagrees : (p : Pending) → takesVersion p ≡ true → versionLimit (entryLayout L r p) ≤ r .next .0 → agreesWith L r p ≡ false
+  unfolding takesVersion entryLayout agreesWith
   version-disagrees Idle t h = refl
   version-disagrees (Append n k) t h = sym (entry-spent L r 0 n h)
-  version-disagrees (NewHead i n k) t h = both-false-right _ _ (sym (entry-spent L r (digestSize L) n h))
+  version-disagrees (NewHead i n k) t h = both-false-right _ _ (sym (entry-spent (newLayout r) r (digestSize (newLayout r)) n h))
   version-disagrees (Clean i v n k) t h = let z : _≡_ {A = ℕ} 0 1 = cc in absurd (omega arith)
-  version-disagrees (Forget i v n k) t h = both-false-right _ _ (sym (forget-spent L r v n h))
+  version-disagrees (Forget i v n k) t h = both-false-right _ _ (sym (forget-spent (newLayout r) r v n h))
 
   pub number-disagrees : (p : Pending) → takesNumber p ≡ true → numberLimit ≤ r .digest .0 → agreesWith L r p ≡ false
   unfolding takesNumber agreesWith
@@ -210,64 +219,69 @@ module _ (L : Layout) (before : List ℕ) (idle : Record) where
       (ap not (clear-named (idle .map) (newSlot idle) (next-clear (idle .slots) (idle .map) (idle .head) (f .head-below) (f .some-free)))))
 
   module _ (facts : Lent L idle (length before) (idle .cells)) (e : Entry) (f : Entering L before idle e) where
-    pub version-left : idle .next .0 < versionLimit L
+    -- an edition in which the entry can stand has a version left
+    version-left : (K : Layout) → WellFormed K e → idle .next .0 < versionLimit K
     unfolding goodVersion
-    version-left =
+    version-left K w =
         omega (
           arith,
-          ltb-true (e .version) (versionLimit L) (both-right (ltb 0 (e .version)) (ltb (e .version) (versionLimit L)) (f .formed .version-good)),
+          ltb-true (e .version) (versionLimit K) (both-right (ltb 0 (e .version)) (ltb (e .version) (versionLimit K)) (w .version-good)),
           f .takes .version,
         )
 
-    entry-laid : (p : Pending) (o n : ℕ) → o + sizeOf L e ≤ n → entryAgrees L (withPending idle p) o n ≡ true
+    entry-laid : (K : Layout) → WellFormed K e → (p : Pending) (o n : ℕ) → o + sizeOf K e ≤ n → entryAgrees K (withPending idle p) o n ≡ true
     unfolding entryAgrees
-    entry-laid p o n h =
-        both-true _ _ (lt-ltb (idle .next .0) (versionLimit L) version-left) (le-leb (o + entrySize L 0) n (omega arith))
+    entry-laid K w p o n h =
+        both-true _ _ (lt-ltb (idle .next .0) (versionLimit K) (version-left K w)) (le-leb (o + entrySize K 0) n (omega arith))
 
+    -- appended in the head's edition, or in a new head of its own
     entry-agrees : Agrees (laidEntry L idle e)
     unfolding pick agreesWith
     entry-agrees = go (fitsHead L idle e) refl
       where
-        go : (t : Bool) → fitsHead L idle e ≡ t → Agrees (pick t (laidAppend L e) (laidHead L idle e))
-        go true p k = entry-laid (laidAppend L e .pending k) 0 (sizeOf L e) (omega arith)
+        go : (t : Bool) → fitsHead L idle e ≡ t → Agrees (pick t (laidAppend L e) (laidHead (newLayout idle) idle e))
+        go true p k = entry-laid L (f .formed p) (laidAppend L e .pending k) 0 (sizeOf L e) (omega arith)
         go false p k =
-            both-true _ _ (new-slot-agrees (laidHead L idle e .pending k) facts (f .number-left p))
-            (entry-laid (laidHead L idle e .pending k) (digestSize L) (digestSize L + sizeOf L e) (omega arith))
+            let W = newLayout idle in
+            both-true _ _ (new-slot-agrees (laidHead W idle e .pending k) facts (f .number-left p))
+            (entry-laid W (f .formed-new) (laidHead W idle e .pending k) (digestSize W) (digestSize W + sizeOf W e) (omega arith))
 
   -- a cleaning's victims, also of one that deletes
   victims-laid :
-      (p : Pending) (victims : ℕ) (next : Version) (stand : List Placed) → Cleaning L before idle victims next stand →
-      victimsAgree L (withPending idle p) victims (digestSize L + length (allEncoded L (kept victims stand))) ≡ true
+      (W : Layout) (p : Pending) (victims : ℕ) (next : Version) (stand : List Placed) → Cleaning L W before idle victims next stand →
+      victimsAgree W (withPending idle p) victims (digestSize W + length (allEncoded W (kept victims stand))) ≡ true
   unfolding victimsAgree
-  victims-laid p victims next stand c =
-      both-true _ _ (le-leb (digestSize L) (digestSize L + length (allEncoded L (kept victims stand))) (omega arith))
+  victims-laid W p victims next stand c =
+      both-true _ _ (le-leb (digestSize W) (digestSize W + length (allEncoded W (kept victims stand))) (omega arith))
       (both-true _ _ (lt-ltb 0 victims (c .some-victim)) (c .sub))
 
-  clean-laid : (victims : ℕ) → Accepted L before idle (clean victims) → Agrees (laidClean L idle (logNow before idle) victims)
+  clean-laid : (victims : ℕ) → Accepted L before idle (clean victims) → Agrees (laidClean (newLayout idle) idle (logNow before idle) victims)
   unfolding agreesWith
   clean-laid victims a k =
+      let W = newLayout idle in
       let c = clean-cleans L before idle victims a in
       both-true _ _
-      (new-slot-agrees (laidClean L idle (logNow before idle) victims .pending k) (idle-lent L before idle (clean victims) a)
+      (new-slot-agrees (laidClean W idle (logNow before idle) victims .pending k) (idle-lent L before idle (clean victims) a)
       (omega (arith, c .number-left)))
-      (victims-laid (laidClean L idle (logNow before idle) victims .pending k) victims (idle .next) (logNow before idle) c)
+      (victims-laid W (laidClean W idle (logNow before idle) victims .pending k) victims (idle .next) (logNow before idle) c)
 
-  forget-laid : (key : Key) → Accepted L before idle (delete key) → noRoom idle (entrySize L 0) ≡ true → Agrees (laidForget L idle (logNow before idle) key)
+  forget-laid : (key : Key) → Accepted L before idle (delete key) → noRoom L idle (entrySize L 0) ≡ true → Agrees (laidForget (newLayout idle) idle (logNow before idle) key)
   unfolding agreesWith forgetAgrees
   forget-laid key a full k =
+      let W = newLayout idle in
       let c = forget-cleans L before idle key a full in
       both-true _ _
-      (new-slot-agrees (laidForget L idle (logNow before idle) key .pending k) (idle-lent L before idle (delete key) a)
+      (new-slot-agrees (laidForget W idle (logNow before idle) key .pending k) (idle-lent L before idle (delete key) a)
       (omega (arith, c .number-left)))
-      (both-true _ _ (lt-ltb (idle .next .0) (versionLimit L) (delete-next L before idle key a))
-      (victims-laid (laidForget L idle (logNow before idle) key .pending k) _ _ _ c))
+      (both-true _ _ (lt-ltb (idle .next .0) (versionLimit W) (delete-next L before idle key a))
+      (victims-laid W (laidForget W idle (logNow before idle) key .pending k) _ _ _ c))
 
   delete-laid : (key : Key) → Accepted L before idle (delete key) → Agrees (laidDelete L idle (logNow before idle) key)
   unfolding pick
-  delete-laid key a = go (noRoom idle (entrySize L 0)) refl
+  delete-laid key a = go (noRoom L idle (entrySize L 0)) refl
     where
-      go : (t : Bool) → noRoom idle (entrySize L 0) ≡ t →
-          Agrees (pick t (laidForget L idle (logNow before idle) key) (laidEntry L idle (tombstoneEntry idle key)))
+      go : (t : Bool) → noRoom L idle (entrySize L 0) ≡ t →
+          Agrees (pick t (laidForget (newLayout idle) idle (logNow before idle) key) (laidEntry L idle (tombstoneEntry idle key)))
       go true full = forget-laid key a full
       go false room =
           entry-agrees (idle-lent L before idle (delete key) a) (tombstoneEntry idle key) (delete-enters L before idle key a room)

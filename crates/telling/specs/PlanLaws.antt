@@ -10,7 +10,7 @@ use lib.Dec.{ltb}
 use lib.ListN.{length, getD, take, length-append}
 use lib.Seq.{getD-take}
 use borrow.Author.Tests.{ltb-true, ltb-false, leb-true, lt-ltb, le-ltb}
-use Rattle.segment.specs.Choice.{pick, pick-true, pick-false}
+use Rattle.segment.specs.Choice.{pick, pick-true, pick-false, both-left}
 use Rattle.segment.specs.Layout.{Layout, entrySize, digestSize}
 use Rattle.segment.specs.Entry.{Entry, encoded, sizeOf}
 use Rattle.segment.specs.EntryLaws.{length-encoded}
@@ -20,11 +20,12 @@ use Rattle.segment.specs.declared.Digest.{Digest}
 use Rattle.segment.specs.declared.Key.{Key}
 use Rattle.slot_map.specs.NextLaws.{next-below}
 use Rattle.record.specs.Answers.{withPending}
-use Rattle.record.specs.RangeLaws.{Lent, lent}
+use Rattle.record.specs.RangeLaws.{Lent, lent, lent-switched}
+use Rattle.record.specs.Switch.{newLayout, unswitched}
 use Rattle.record.specs.declared.Pending.the-variants.{Append, NewHead, Clean, Forget}
 use Rattle.record.specs.declared.Record.{Record}
 use Rattle.model.specs.Log.{Placed}
-use Rattle.model.specs.Operations.{Operation, write, delete, clean, Laid, laid, laidEntry, laidClean, laidForget, laidDelete, logNow, noRoom, newSlot, newDigest, fitsHead, kept, allEncoded, forgetVictim, forgetKept, forgetDigest, writtenEntry, tombstoneEntry, planOf, planFor, commit}
+use Rattle.model.specs.Operations.{Operation, write, delete, clean, Laid, laid, laidHead, laidEntry, laidClean, laidForget, laidDelete, logNow, noRoom, newSlot, newDigest, fitsHead, kept, allEncoded, forgetVictim, forgetKept, forgetDigest, writtenEntry, tombstoneEntry, planOf, planFor, commit}
 use Rattle.model.specs.Promises.{Started}
 use Rattle.laws.specs.Stores.{slot-inside, length-stored, commit-byte, commit-end, commit-last}
 use Rattle.laws.specs.Operated.{Accepted, OperationLaws}
@@ -165,8 +166,9 @@ module _ (L : Layout) (laws : OperationLaws L) (area : List ℕ) (r : Record) (w
 
   pub idle-lent : Lent L (s .idle) (length (s .before)) (s .idle .cells)
   idle-lent =
-      lent L (s .idle) (length (s .before)) (s .idle .cells)
-      (laws .own-lengths (s .idle .slots) (s .idle .size) (s .idle .cells) (s .before) (s .idle) (s .area-bytes) (s .recovers))
+      lent-switched (s .idle)
+      (lent L (unswitched (s .idle)) (length (s .before)) (s .idle .cells)
+      (laws .own-lengths (s .idle .slots) (s .idle .size) (s .idle .cells) (s .before) (unswitched (s .idle)) (s .area-bytes) (s .recovers)))
 
   pub same-length : length area ≡ length (s .before)
   same-length = ap length (s .area-now) ∙ length-stored (s .before) (take (s .since) (planFor L (s .idle) log (s .operation)))
@@ -194,20 +196,16 @@ module _ (L : Layout) (laws : OperationLaws L) (area : List ℕ) (r : Record) (w
             (record {
               some = omega arith;
               read = omega (arith, length-encoded L e);
-              room = leb-true (s .idle .end + sizeOf L e) (s .idle .size) t;
+              room = leb-true (s .idle .end + sizeOf L e) (s .idle .size) (both-left _ _ t);
               inside = segment-inside (s .idle .head) (idle-lent .head-below);
             })
             h
 
-        heads : Told
-            (record {
-              pending = λ k. NewHead (newSlot (s .idle)) (digestSize L + sizeOf L e) k;
-              bytes = encodedDigest L (newDigest (s .idle) 0) ++ encoded L e;
-            })
-        heads f w h =
-            let total : digestSize L + sizeOf L e ≡ length (encodedDigest L (newDigest (s .idle) 0) ++ encoded L e) =
-            omega (arith, length-append (encodedDigest L (newDigest (s .idle) 0)) (encoded L e), length-encodedDigest L (newDigest (s .idle) 0), length-encoded L e) in
-            head-next (length area) work (s .idle) (digestSize L + sizeOf L e) (encodedDigest L (newDigest (s .idle) 0) ++ encoded L e) total w (s .since)
+        heads : (W : Layout) → Told (laidHead W (s .idle) e)
+        heads W f w h =
+            let total : digestSize W + sizeOf W e ≡ length (encodedDigest W (newDigest (s .idle) 0) ++ encoded W e) =
+            omega (arith, length-append (encodedDigest W (newDigest (s .idle) 0)) (encoded W e), length-encodedDigest W (newDigest (s .idle) 0), length-encoded W e) in
+            head-next (length area) work (s .idle) (digestSize W + sizeOf W e) (encodedDigest W (newDigest (s .idle) 0) ++ encoded W e) total w (s .since)
             (newSlot (s .idle))
             (record {
               some = omega arith;
@@ -219,14 +217,14 @@ module _ (L : Layout) (laws : OperationLaws L) (area : List ℕ) (r : Record) (w
 
         go : (t : Bool) → fitsHead L (s .idle) e ≡ t → Told (laidEntry L (s .idle) e)
         go true t = subst Told (sym (pick-true (fitsHead L (s .idle) e) _ _ t)) (appends t)
-        go false t = subst Told (sym (pick-false (fitsHead L (s .idle) e) _ _ t)) heads
+        go false t = subst Told (sym (pick-false (fitsHead L (s .idle) e) _ _ t)) (heads (newLayout (s .idle)))
 
-    -- a digest and entries behind it, for a new head
-    total-head : (d : Digest) (es : List Entry) → digestSize L + length (allEncoded L es) ≡ length (encodedDigest L d ++ allEncoded L es)
-    total-head d es = omega (arith, length-append (encodedDigest L d) (allEncoded L es), length-encodedDigest L d)
+    -- a digest and entries behind it, for a new head of any edition
+    total-head : (W : Layout) (d : Digest) (es : List Entry) → digestSize W + length (allEncoded W es) ≡ length (encodedDigest W d ++ allEncoded W es)
+    total-head W d es = omega (arith, length-append (encodedDigest W d) (allEncoded W es), length-encodedDigest W d)
 
-    head-fit : (n : ℕ) → digestSize L ≤ n → n ≤ s .idle .size → Fit (length area) (length work) (s .idle .size) (newSlot (s .idle)) 0 n
-    head-fit n low f =
+    head-fit : (n : ℕ) → 0 < n → n ≤ s .idle .size → Fit (length area) (length work) (s .idle .size) (newSlot (s .idle)) 0 n
+    head-fit n some-byte f =
         record {
           some = omega arith;
           read = omega arith;
@@ -234,35 +232,35 @@ module _ (L : Layout) (laws : OperationLaws L) (area : List ℕ) (r : Record) (w
           inside = segment-inside (newSlot (s .idle)) new-slot-below;
         }
 
-    clean-told : (v : ℕ) → Told (laidClean L (s .idle) log v)
+    clean-told : (W : Layout) (v : ℕ) → Told (laidClean W (s .idle) log v)
     unfolding planOf
-    clean-told v f w h =
-        let total = total-head (newDigest (s .idle) v) (kept v log) in
-        clean-next (length area) work (s .idle) (digestSize L + length (allEncoded L (kept v log)))
-        (encodedDigest L (newDigest (s .idle) v) ++ allEncoded L (kept v log)) total w (s .since) (newSlot (s .idle)) v
-        (head-fit (digestSize L + length (allEncoded L (kept v log))) (omega arith) (omega arith)) h
+    clean-told W v f w h =
+        let total = total-head W (newDigest (s .idle) v) (kept v log) in
+        clean-next (length area) work (s .idle) (digestSize W + length (allEncoded W (kept v log)))
+        (encodedDigest W (newDigest (s .idle) v) ++ allEncoded W (kept v log)) total w (s .since) (newSlot (s .idle)) v
+        (head-fit (digestSize W + length (allEncoded W (kept v log))) (omega arith) (omega arith)) h
 
-    forget-told : (k : Key) → Told (laidForget L (s .idle) log k)
+    forget-told : (W : Layout) (k : Key) → Told (laidForget W (s .idle) log k)
     unfolding planOf
-    forget-told k f w h =
-        let total = total-head (forgetDigest (s .idle) log k) (forgetKept (s .idle) log k) in
-        forget-next (length area) work (s .idle) (digestSize L + length (allEncoded L (forgetKept (s .idle) log k)))
-        (encodedDigest L (forgetDigest (s .idle) log k) ++ allEncoded L (forgetKept (s .idle) log k)) total w (s .since) (newSlot (s .idle))
-        (forgetVictim log k) (head-fit (digestSize L + length (allEncoded L (forgetKept (s .idle) log k))) (omega arith) (omega arith)) h
+    forget-told W k f w h =
+        let total = total-head W (forgetDigest (s .idle) log k) (forgetKept (s .idle) log k) in
+        forget-next (length area) work (s .idle) (digestSize W + length (allEncoded W (forgetKept (s .idle) log k)))
+        (encodedDigest W (forgetDigest (s .idle) log k) ++ allEncoded W (forgetKept (s .idle) log k)) total w (s .since) (newSlot (s .idle))
+        (forgetVictim log k) (head-fit (digestSize W + length (allEncoded W (forgetKept (s .idle) log k))) (omega arith) (omega arith)) h
 
     delete-told : (k : Key) → Told (laidDelete L (s .idle) log k)
     unfolding pick
-    delete-told k = go (noRoom (s .idle) (entrySize L 0))
+    delete-told k = go (noRoom L (s .idle) (entrySize L 0))
       where
-        go : (t : Bool) → Told (pick t (laidForget L (s .idle) log k) (laidEntry L (s .idle) (tombstoneEntry (s .idle) k)))
-        go true = forget-told k
+        go : (t : Bool) → Told (pick t (laidForget (newLayout (s .idle)) (s .idle) log k) (laidEntry L (s .idle) (tombstoneEntry (s .idle) k)))
+        go true = forget-told (newLayout (s .idle)) k
         go false = entry-told (tombstoneEntry (s .idle) k)
 
     told : (o : Operation) → Told (laid L (s .idle) log o)
     unfolding laid
     told (write k v) = entry-told (writtenEntry (s .idle) k v)
     told (delete k) = delete-told k
-    told (clean v) = clean-told v
+    told (clean v) = clean-told (newLayout (s .idle)) v
 
     -- the store of the plan whose turn it is
     pub next-started : nextStore (length area) work r ≡ atOf (getD (planFor L (s .idle) log (s .operation)) (s .since) (0, 0))

@@ -5,6 +5,8 @@ use crate::Target;
 use crate::next::head_target;
 use record::Pending;
 use record::Record;
+use record::new_edition;
+use segment::Edition;
 use segment::layout::NUMBER_LIMIT;
 use segment::layout::digest_size;
 use segment::layout::head_size;
@@ -16,25 +18,24 @@ ghost use mathlib.Core.Path.{_≡_};
 ghost use lib.Dec.{ltb};
 ghost use Rattle.segment.specs.Choice.{both};
 ghost use Rattle.segment.specs.Layout.{digestSize, versionLimit};
+ghost use Rattle.record.specs.Switch.{newLayout};
 ghost use Rattle.telling.specs.Agree.{entryAgrees, slotAgrees, victimsAgree, forgetAgrees, agreesWith};
 ghost use Rattle.telling.specs.Next.{targetOf};
 
-// Whether there is a version left.
-fn version_left(rec: Record) -> bool
-    ensures { λ r. ⌜ r ≡ ltb (rec .next .0) (versionLimit (rec .edition)) ⌝ }
+// Whether there is a version left in an edition.
+fn version_left(edition: Edition, rec: Record) -> bool
+    ensures { λ r. ⌜ r ≡ ltb (rec .next .0) (versionLimit edition) ⌝ }
 {
-    let edition = rec.edition;
     let next = rec.next;
     next.0 < version_limit(edition)
 }
 
 // Whether there is a version left, and an entry in `count` bytes behind the first `before`.
-fn entry_agrees(rec: Record, before: usize, count: usize) -> bool
+fn entry_agrees(edition: Edition, rec: Record, before: usize, count: usize) -> bool
     requires { ⌜ before ≤ 2048 ⌝ }
-    ensures { λ r. ⌜ r ≡ entryAgrees (rec .edition) rec before count ⌝ }
+    ensures { λ r. ⌜ r ≡ entryAgrees edition rec before count ⌝ }
 {
-    let edition = rec.edition;
-    if !version_left(rec) {
+    if !version_left(edition, rec) {
         return false;
     }
     before + head_size(edition) <= count
@@ -56,10 +57,9 @@ fn slot_agrees(rec: Record, slot: u32) -> bool
 }
 
 // Whether the victims are some of the map's slots, and `count` bytes hold a digest.
-fn victims_agree(rec: Record, victims: u32, count: usize) -> bool
-    ensures { λ r. ⌜ r ≡ victimsAgree (rec .edition) rec victims count ⌝ }
+fn victims_agree(edition: Edition, rec: Record, victims: u32, count: usize) -> bool
+    ensures { λ r. ⌜ r ≡ victimsAgree edition rec victims count ⌝ }
 {
-    let edition = rec.edition;
     if count < digest_size(edition) {
         return false;
     }
@@ -70,38 +70,40 @@ fn victims_agree(rec: Record, victims: u32, count: usize) -> bool
 }
 
 // The same for a delete that cleans, for which there must be a version left too.
-fn forget_agrees(rec: Record, victims: u32, count: usize) -> bool
-    ensures { λ r. ⌜ r ≡ forgetAgrees (rec .edition) rec victims count ⌝ }
+fn forget_agrees(edition: Edition, rec: Record, victims: u32, count: usize) -> bool
+    ensures { λ r. ⌜ r ≡ forgetAgrees edition rec victims count ⌝ }
 {
-    if !version_left(rec) {
+    if !version_left(edition, rec) {
         return false;
     }
-    victims_agree(rec, victims, count)
+    victims_agree(edition, rec, victims, count)
 }
 
-// Whether a new head with one entry agrees.
+// Whether a new head with one entry agrees, in the edition that it will have.
 fn head_agrees(rec: Record, slot: u32, count: u32) -> bool
     requires { ⌜ rec .slots ≤ 32 ⌝ }
-    ensures { λ r. ⌜ r ≡ both (slotAgrees rec slot) (entryAgrees (rec .edition) rec (digestSize (rec .edition)) count) ⌝ }
+    ensures { λ r. ⌜ r ≡ both (slotAgrees rec slot) (entryAgrees (newLayout rec) rec (digestSize (newLayout rec)) count) ⌝ }
 {
-    let edition = rec.edition;
-    slot_agrees(rec, slot) && entry_agrees(rec, digest_size(edition), count as usize)
+    let edition = new_edition(rec);
+    slot_agrees(rec, slot) && entry_agrees(edition, rec, digest_size(edition), count as usize)
 }
 
 // Whether a cleaning agrees.
 fn clean_agrees(rec: Record, slot: u32, victims: u32, count: u32) -> bool
     requires { ⌜ rec .slots ≤ 32 ⌝ }
-    ensures { λ r. ⌜ r ≡ both (slotAgrees rec slot) (victimsAgree (rec .edition) rec victims count) ⌝ }
+    ensures { λ r. ⌜ r ≡ both (slotAgrees rec slot) (victimsAgree (newLayout rec) rec victims count) ⌝ }
 {
-    slot_agrees(rec, slot) && victims_agree(rec, victims, count as usize)
+    let edition = new_edition(rec);
+    slot_agrees(rec, slot) && victims_agree(edition, rec, victims, count as usize)
 }
 
 // Whether a delete that cleans agrees.
 fn delete_agrees(rec: Record, slot: u32, victims: u32, count: u32) -> bool
     requires { ⌜ rec .slots ≤ 32 ⌝ }
-    ensures { λ r. ⌜ r ≡ both (slotAgrees rec slot) (forgetAgrees (rec .edition) rec victims count) ⌝ }
+    ensures { λ r. ⌜ r ≡ both (slotAgrees rec slot) (forgetAgrees (newLayout rec) rec victims count) ⌝ }
 {
-    slot_agrees(rec, slot) && forget_agrees(rec, victims, count as usize)
+    let edition = new_edition(rec);
+    slot_agrees(rec, slot) && forget_agrees(edition, rec, victims, count as usize)
 }
 
 // Whether the pending operation agrees with the record, and where its bytes go: an append commits at the head's end, a new head at
@@ -111,6 +113,7 @@ pub fn aim_of(rec: Record) -> Aim
     ensures { λ r.
         ⌜ r ≡ record { agreed = agreesWith (rec .edition) rec (rec .pending); to = targetOf (rec .pending) (rec .head) (rec .end) } ⌝ }
 {
+    let edition = rec.edition;
     let pending = rec.pending;
     match pending {
         Pending::Idle => Aim {
@@ -124,7 +127,7 @@ pub fn aim_of(rec: Record) -> Aim
             },
         },
         Pending::Append { length, left } => Aim {
-            agreed: entry_agrees(rec, 0, length as usize),
+            agreed: entry_agrees(edition, rec, 0, length as usize),
             to: Target {
                 slot: rec.head,
                 offset: rec.end,

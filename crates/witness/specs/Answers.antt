@@ -24,12 +24,15 @@ use Rattle.record.specs.declared.RecoverAnswer.{RecoverAnswer}
 use Rattle.record.specs.declared.Refusal.{Refusal}
 use Rattle.record.specs.declared.Refusal.the-variants.{NoPair}
 use Rattle.record.specs.declared.Record.{Record}
+use Rattle.record.specs.Switch.{switchSaid}
+use Rattle.record.specs.declared.Switching.{Switching}
+use Rattle.model.specs.Switching.{switchCauses, switching, SwitchPromise}
 use Rattle.record.specs.declared.Tables.{Tables}
 use Rattle.model.specs.Log.{present}
 use Rattle.model.specs.Causes.{firstCause, when}
 use Rattle.model.specs.Fewest.{fewestSlot, fewestCauses, fewestAnswer, FewestPromise}
 use Rattle.model.specs.Operations.{Operation, logNow}
-use Rattle.model.specs.Recovery.{recovery, recoveryFor, recoverCauses, recordFrom}
+use Rattle.model.specs.Recovery.{imageLayout, recovery, recoveryFor, recoverCauses, recordFrom}
 use Rattle.model.specs.Refused.{Terms, reachCauses, readCauses, startCauses}
 use Rattle.model.specs.Conversion.{convertCauses, convertedImage, convertAnswer, ConvertPromise}
 use Rattle.model.specs.Promises.{areaUnless, IndexAfter, RecoverPromise, readAnswer, readLengths, ReadPromise, Part, valueAnswer, ValuePromise, Begun, begun, lentLengths, StartPromise}
@@ -83,6 +86,18 @@ module _ (L : Layout) (r : Record) (area cells : List ℕ) (t : Tables) (k : Key
 
 -- ---- the slot with the fewest present bytes
 
+-- the switch to the second edition
+abbrev pub switchedBy : Layout → Record → Switching
+switchedBy L r = switching (firstCause (switchCauses L r)) r
+
+pub switch-made : (L : Layout) (r : Record) → SwitchPromise L r (switchedBy L r)
+unfolding switching saidBy
+switch-made L r = record { answers = refl; says = said (firstCause (switchCauses L r)) }
+  where
+    said : (c : Option Refusal) → switchSaid (switching c r .answer) ≡ saidBy c taken
+    said none = refl
+    said (some c) = refl
+
 abbrev pub fewestBy : Layout → Record → Fewest
 fewestBy L r = record { answer = fewestAnswer (firstCause (fewestCauses L r)) (fewestSlot r); rec = r }
 
@@ -134,13 +149,13 @@ abbrev pub joinedBy : Layout → Record → List ℕ → List ℕ → Joined
 joinedBy L r area cells =
     record {
       answer =
-          joinAnswer (firstCause (joinCauses L r (readLengths area cells) (joinPair L r (logNow area r)))) (joinPair L r (logNow area r));
+          joinAnswer (firstCause (joinCauses L r (readLengths area cells) (joinPair r (logNow area r)))) (joinPair r (logNow area r));
       rec = r;
     }
 
 module _ (L : Layout) (r : Record) (area cells : List ℕ) where
   abbrev pair : Option SlotPair
-  pair = joinPair L r (logNow area r)
+  pair = joinPair r (logNow area r)
 
   pair-cause : (c : Refusal) → firstCause (joinEarly L r (readLengths area cells)) ≡ some c → firstCause (joinCauses L r (readLengths area cells) pair) ≡ some c
   pair-cause c e = first-some (joinEarly L r (readLengths area cells)) (when (isNone pair) NoPair ∷ []) c e
@@ -193,7 +208,7 @@ cellsBy L s order area cells r (RecoverAnswer.Refused c) = pick (eqb (numberOfRe
 abbrev pub recoveredCells : Layout → ℕ → List ℕ → List ℕ → List ℕ → Recovery → List ℕ
 recoveredCells L s order area cells r = cellsBy L s order area cells (r .rec) (r .answer)
 
-module _ (L : Layout) (n s : ℕ) (order area cells : List ℕ) where
+module _ (L : Layout) (n s : ℕ) (order area cells : List ℕ) (own : imageLayout n s area ≡ L) where
   abbrev m : ℕ
   m = length cells
 
@@ -209,7 +224,7 @@ module _ (L : Layout) (n s : ℕ) (order area cells : List ℕ) where
   rebuilt : recovery L n s m order area ≡ record { answer = RecoverAnswer.Recovered; rec = rec } →
       Holds s m (logNow area rec) (built area s (rec .map) order m)
   rebuilt e =
-      let recovers = recovery-recovered L n s m area order rec e in
+      let recovers = recovery-recovered L n s m area order rec own e in
       recovered-built L n s m area order rec recovers (recovery-order L n s m area order rec e)
       (omega (arith, between-low 16 4096 m (recovered-facts L n s m area rec recovers .lent .cells-good)))
 

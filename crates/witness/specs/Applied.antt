@@ -8,7 +8,7 @@ use mathlib.Core.Option.{Option, none, some}
 use native.Mathlib.Omega.{arith}
 use lib.ListN.{length, replicate}
 use Rattle.segment.specs.Choice.{both, pick-true, pick}
-use Rattle.segment.specs.Layout.{edition1, numberOfLayout}
+use Rattle.segment.specs.Layout.{Layout, edition1, numberOfLayout}
 use Rattle.segment.specs.declared.Key.{Key}
 use Rattle.record.specs.Answers.{Said, readSaid, refusal, saidBy, taken}
 use Rattle.record.specs.declared.FormatAnswer.{FormatAnswer}
@@ -25,6 +25,7 @@ use Rattle.model.specs.Recovery.{orderBad, recovery, imageLayout}
 use Rattle.model.specs.Promises.{formatAnswer, areaUnless, FormatPromise, RecoverPromise, ReadPromise, Part, partOf, ValuePromise}
 use Rattle.record.specs.declared.TellAnswer.{TellAnswer}
 use Rattle.history.specs.Book.{reads, starts, asks, Answer, saying, telling, Event, called, cut, accepted, bookVersion, Book, freshBook, versionFor, feed, bookOf, highestTold, versionTold, scansValue, giving}
+use Rattle.history.specs.Editions.{Editions, formattedIn, editionsAfter, editionsBehind, only-format}
 use Rattle.history.specs.Runs.{Held}
 use Rattle.history.specs.Demand3.{LargeEnough, bookAnswer, bookValue, GivesBook, StepAgrees, QuestionAgrees, EventAgrees, EventsAgree, Demand3Of}
 use Rattle.history.proofs.Readings.{feed-asks}
@@ -70,6 +71,11 @@ ten-answer : bookAnswer edition1 two ≡ ReadAnswer.Present (record { 0 = 2 }) 2
 unfolding opened bookAnswer
 ten-answer = refl
 
+-- no switch is among the events, so every slot is of the format's edition
+unswitched : editionsBehind (formattedIn edition1) events ≡ formattedIn edition1
+unfolding editionsBehind editionsAfter
+unswitched = refl
+
 highest : highestTold events ≡ 3
 unfolding versionTold highestTold
 highest = refl
@@ -87,16 +93,19 @@ left order cells cells′ r good large p =
           told-below-next edition1 4 256 before area₀ (bytes-of 1024 0xaa (omega arith)) formats
           (begins ++ (writes ++ (idles ++ (half ++ (meanwhile ++ (fails ++ (others ++ (deletes ++ (cleans ++ (cut ∷ recovered ∷ readsAs nine (refusal 8) []))))))))))
           (valueEvent ten threes ∷ []) (asks (reads allTables ten)) (lent 0) (saying (told 0 2 2)) (all .world) run order cells cells′ r good enough p;
-      absent = λ a q. given .answers allTables nine nine-typed refl a q ∙ ap (bookAnswer edition1) (cleaned .first-key);
+      absent = λ a q. let (K, its, answer) = given .answers allTables nine nine-typed refl a q in answer ∙ ap (bookAnswer K) (cleaned .first-key);
       no-value = λ v q. given .values allTables nine nine-typed refl v q ∙ ap bookValue (cleaned .first-key);
-      present = λ a q. given .answers allTables ten ten-typed refl a q ∙ ap (bookAnswer edition1) (cleaned .second-key) ∙ ten-answer;
+      present =
+          λ a q.
+          let (K, its, answer) = given .answers allTables ten ten-typed refl a q in
+          answer ∙ ap (bookAnswer K) (cleaned .second-key) ∙ ap (λ (L : Layout). bookAnswer L two) (only-format (editionsBehind (formattedIn edition1) events) K (ap (λ (E : Editions). E .switched) unswitched) its ∙ ap (λ (E : Editions). E .format) unswitched) ∙ ten-answer;
       value = λ v q. given .values allTables ten ten-typed refl v q ∙ ap bookValue (cleaned .second-key);
     }
   where
     enough : LargeEnough (all .world .cells) (length cells)
     enough = subst⁻¹ (λ (m : Option ℕ). LargeEnough m (length cells)) sixteen large
 
-    given : GivesBook edition1 (all .world .area) cells′ r (bookOf events)
+    given : GivesBook (editionsBehind (formattedIn edition1) events) (all .world .area) cells′ r (bookOf events)
     given = demanded .recovery order cells cells′ r good enough p
 
 -- and there is such a recovery, for every order and every index that is large enough
@@ -105,7 +114,7 @@ pub left-by :
     let L = imageLayout 4 256 (all .world .area) in
     let r = recovery L 4 256 (length cells) order (all .world .area) in
     Left (recoveredCells L 256 order (all .world .area) cells r) r
-left-by order cells good large = left order cells _ _ good large (recover-made (imageLayout 4 256 (all .world .area)) 4 256 order (all .world .area) cells)
+left-by order cells good large = left order cells _ _ good large (recover-made (imageLayout 4 256 (all .world .area)) 4 256 order (all .world .area) cells refl)
 
 -- ---- what steps answered
 
@@ -121,14 +130,14 @@ rest = idles ++ (half ++ (meanwhile ++ (fails ++ (others ++ (deletes ++ (cleans 
 pub last-step : (told 0 1 0 .stores ≡ 1 - 1) × (told 0 1 0 .version ≡ versionFor atLast (write nine ones))
 unfolding EventAgrees StepAgrees booking
 last-step =
-    let h = agree-at edition1 freshBook (begins ++ started (write nine ones) 20 ∷ leaving 19 1) (stepped (told 0 1 0)) rest (demanded .agrees) refl in
+    let h = agree-at (formattedIn edition1) freshBook (begins ++ started (write nine ones) 20 ∷ leaving 19 1) (stepped (told 0 1 0)) rest (demanded .agrees) refl in
     (h .0, h .1 refl)
 
 -- the one after it cannot have been accepted, since nothing is pending
 pub no-step : accepted (saying (refusal 6)) ≡ true → ⊥
 unfolding EventAgrees StepAgrees booking
 no-step =
-    agree-at edition1 freshBook (begins ++ writes) (stepped (refusal 6))
+    agree-at (formattedIn edition1) freshBook (begins ++ writes) (stepped (refusal 6))
     (readsAs nine (told 0 1 1) ones ++ (foretold (saying (refusal 6)) ∷ half ++ (meanwhile ++ (fails ++ (others ++ (deletes ++ (cleans ++ ends)))))))
     (demanded .agrees)
 
@@ -141,44 +150,52 @@ pub record ReadAgreed (b : Book) (k : Key) (a : Said) (value : List ℕ) : Type 
 
 read-agreed :
     (prior : List Event) (k : Key) (a : Said) (value : List ℕ) (after : List Event) → holdsTable allTables (k .table) ≡ true →
-    EventsAgree edition1 freshBook (prior ++ (readsAs k a value ++ after)) → ReadAgreed (bookOf prior) k a value
-unfolding EventAgrees QuestionAgrees EventsAgree
-read-agreed prior k a value after inside h =
+    editionsBehind (formattedIn edition1) prior ≡ formattedIn edition1 → EventsAgree (formattedIn edition1) freshBook (prior ++ (readsAs k a value ++ after)) → ReadAgreed (bookOf prior) k a value
+unfolding EventAgrees QuestionAgrees EventsAgree editionsAfter
+read-agreed prior k a value after inside one h =
     record {
       said =
-          ap (λ (x : Answer). x .said) (agree-at edition1 freshBook prior (readEvent k a) (valueEvent k value ∷ after) h) ∙
-          pick-true (holdsTable allTables (k .table)) (readSaid (bookAnswer edition1 (bookOf prior .keys k))) (refusal 22) inside;
+          let (K, its, answer) = agree-at (formattedIn edition1) freshBook prior (readEvent k a) (valueEvent k value ∷ after) h in
+          ap (λ (x : Answer). x .said) answer ∙
+          pick-true (holdsTable allTables (k .table)) (readSaid (bookAnswer K (bookOf prior .keys k))) (refusal 22) inside ∙
+          ap (λ (L : Layout). readSaid (bookAnswer L (bookOf prior .keys k)))
+          (only-format (editionsBehind (formattedIn edition1) prior) K (ap (λ (E : Editions). E .switched) one) its ∙ ap (λ (E : Editions). E .format) one);
       gave =
           ap (λ (x : Answer). x .value)
-          (subst (λ (b : Book). EventAgrees edition1 b (valueEvent k value)) (feed-asks (bookOf prior) (reads allTables k) (lent 0) (saying a))
-          (agree-behind edition1 freshBook prior (readEvent k a) (valueEvent k value ∷ after) h .0)) ∙
+          (subst (λ (b : Book). EventAgrees (editionsBehind (formattedIn edition1) prior) b (valueEvent k value)) (feed-asks (bookOf prior) (reads allTables k) (lent 0) (saying a))
+          (agree-behind (formattedIn edition1) freshBook prior (readEvent k a) (valueEvent k value ∷ after) h .0)) ∙
           pick-true (holdsTable allTables (k .table)) (bookValue (bookOf prior .keys k)) [] inside;
     }
 
 -- on the fresh store, while the second write is pending, and after the recovery in the end
 pub read-fresh : ReadAgreed (bookOf (unheld ++ recovered ∷ [])) nine (refusal 8) []
-unfolding holdsTable both
-read-fresh = read-agreed (unheld ++ recovered ∷ []) nine (refusal 8) [] (writes ++ rest) refl (demanded .agrees)
+unfolding holdsTable both editionsBehind editionsAfter
+read-fresh = read-agreed (unheld ++ recovered ∷ []) nine (refusal 8) [] (writes ++ rest) refl refl (demanded .agrees)
 
 pub read-meanwhile : ReadAgreed (bookOf (begins ++ (writes ++ (idles ++ half)))) nine (told 0 1 1) ones
-unfolding holdsTable both
+unfolding holdsTable both editionsBehind editionsAfter
 read-meanwhile =
-    read-agreed (begins ++ (writes ++ (idles ++ half))) nine (told 0 1 1) ones (fails ++ (others ++ (deletes ++ (cleans ++ ends)))) refl
+    read-agreed (begins ++ (writes ++ (idles ++ half))) nine (told 0 1 1) ones (fails ++ (others ++ (deletes ++ (cleans ++ ends)))) refl refl
     (demanded .agrees)
 
 -- after the cut, with no record held, a read by scan answered what the book has
 pub scan-unheld :
     told 0 1 1 ≡
     readSaid (bookAnswer edition1 (bookOf (begins ++ (writes ++ (idles ++ (half ++ (meanwhile ++ (scansAs nine (told 0 1 1) ones ++ convertEvent 1024 taken ∷ cut ∷ [])))))) .keys nine))
-unfolding EventAgrees QuestionAgrees pick holdsTable both
+unfolding EventAgrees QuestionAgrees pick holdsTable both editionsBehind editionsAfter
 scan-unheld =
-    ap (λ (x : Answer). x .said)
-    (agree-at edition1 freshBook (begins ++ (writes ++ (idles ++ (half ++ (meanwhile ++ (scansAs nine (told 0 1 1) ones ++ convertEvent 1024 taken ∷ cut ∷ []))))))
+    let (K, its, answer) =
+    agree-at (formattedIn edition1) freshBook (begins ++ (writes ++ (idles ++ (half ++ (meanwhile ++ (scansAs nine (told 0 1 1) ones ++ convertEvent 1024 taken ∷ cut ∷ []))))))
     (scanEvent nine (told 0 1 1))
     (called (asks (scansValue 4 256 allTables nine)) (record { area = 1024; index = 0; work = 0 }) (giving ones)
     ∷ recovered
     ∷ readsAs nine (told 0 1 1) ones ++ (others ++ (deletes ++ (cleans ++ ends))))
-    (demanded .agrees))
+    (demanded .agrees) in
+    ap (λ (x : Answer). x .said) answer ∙
+    ap
+    (λ (L : Layout).
+    readSaid (bookAnswer L (bookOf (begins ++ (writes ++ (idles ++ (half ++ (meanwhile ++ (scansAs nine (told 0 1 1) ones ++ convertEvent 1024 taken ∷ cut ∷ [])))))) .keys nine)))
+    (only-format (formattedIn edition1) K refl its)
 
 -- ---- what a write expected
 

@@ -9,6 +9,8 @@ use Rattle.record.specs.Answers.{recoverSaid, readSaid, startSaid, stepSaid, co
 use Rattle.segment.specs.declared.Key.{Key}
 use Rattle.record.specs.Pairs.{joinSaid}
 use Rattle.record.specs.declared.Recovery.{Recovery}
+use Rattle.record.specs.Switch.{switchSaid}
+use Rattle.record.specs.declared.Switching.{Switching}
 use Rattle.record.specs.declared.Tables.{Tables}
 use Rattle.model.specs.Operations.{Operation, Typed, TypedKey}
 use Rattle.model.specs.Refused.{Lengths, Terms}
@@ -19,9 +21,9 @@ use Rattle.model.specs.Fewest.{noLengths}
 use Rattle.model.specs.Scanned.{scannedPart}
 use Rattle.telling.specs.Told.{toldBy}
 use Rattle.telling.specs.ToldLaws.{told-promise}
-use Rattle.history.specs.Book.{Question, reads, readsValue, tells, fewest, scans, scansValue, converts, starts, steps, asks, recovers, Answer, saying, giving, telling, naming, Event, called, cut, joins, pairing}
-use Rattle.history.specs.Runs.{Held, World, heldAfter, recoveredWorld, Asked, read, readValue, tell, least, scan, scanValue, convert, Moves, start, step, ask, look, recover, cuts, Run, stop, go, join}
-use Rattle.witness.specs.Answers.{readBy, partBy, read-made, value-made, fewestBy, fewest-made, scanBy, scan-made, scan-value-made, convertedBy, convert-made, startedBy, start-made, recoveredCells, recover-made, joinedBy, join-made}
+use Rattle.history.specs.Book.{Question, reads, readsValue, tells, fewest, scans, scansValue, converts, starts, steps, switches, asks, recovers, Answer, saying, giving, telling, naming, Event, called, cut, joins, pairing}
+use Rattle.history.specs.Runs.{Held, World, heldAfter, recoveredWorld, Asked, read, readValue, tell, least, scan, scanValue, convert, Moves, start, step, switch, ask, look, recover, cuts, Run, stop, go, join}
+use Rattle.witness.specs.Answers.{readBy, partBy, read-made, value-made, fewestBy, fewest-made, scanBy, scan-made, scan-value-made, convertedBy, convert-made, startedBy, start-made, recoveredCells, recover-made, joinedBy, join-made, switchedBy, switch-made}
 use Rattle.witness.specs.Steps.{Moved, steppedBy, step-made}
 
 -- A question's key, where it has one, is of its types. Those by scan and a conversion need no record, and are commands of their own.
@@ -40,6 +42,7 @@ TypedQuestion joins = Unit
 pub data Command : Type 0 where
   operate : Terms → (o : Operation) → Typed o → List ℕ → Command
   advance : Command
+  switchOver : Command
   question : (q : Question) → TypedQuestion q → Command
   glance : Tables → (k : Key) → TypedKey k → Command
   glanceValue : Tables → (k : Key) → TypedKey k → Command
@@ -71,6 +74,14 @@ steppedWorld w h x =
             held = some (record { rec = x .after .stepped .rec; cells = x .after .cells; work = h .work });
             cells = w .cells;
           };
+    }
+
+-- the switch to the second edition (02, R-13)
+abbrev pub switchedWorld : World → Held → Switching → Played
+switchedWorld w h x =
+    record {
+      events = called switches noLengths (saying (switchSaid (x .answer))) ∷ [];
+      world = record { area = w .area; held = some (record { rec = x .rec; cells = h .cells; work = h .work }); cells = w .cells };
     }
 
 -- what a question answers, by the edition of the record, or of the area's head where there is no record
@@ -137,9 +148,11 @@ restarted n s w order cells r =
 unfoldable pub played : ℕ → ℕ → World → Option Held → Command → Played
 played n s w (some h) (operate q o t work) = startedWorld w h q o work (startedBy (h .rec .edition) q o (h .rec) (w .area) (h .cells) work)
 played n s w (some h) advance = steppedWorld w h (steppedBy (h .rec .edition) (h .rec) (w .area) (h .cells) (h .work))
+played n s w (some h) switchOver = switchedWorld w h (switchedBy (h .rec .edition) (h .rec))
 played n s w (some h) (question q t) = askedWorld w h q
 played n s w none (operate q o t work) = record { events = []; world = w }
 played n s w none advance = record { events = []; world = w }
+played n s w none switchOver = record { events = []; world = w }
 played n s w none (question q t) = record { events = []; world = w }
 played n s w held (glance t k ty) = glanced n s w t k
 played n s w held (glanceValue t k ty) = glancedValue n s w t k
@@ -189,9 +202,11 @@ module _ (n s : ℕ) where
   unfolding played
   played-run area m (some h) (operate q o t work) = one (start t (start-made (h .rec .edition) q o (h .rec) area (h .cells) work))
   played-run area m (some h) advance = one (step (λ e. refl) (step-made (h .rec .edition) (h .rec) area (h .cells) (h .work)))
+  played-run area m (some h) switchOver = one (switch (switch-made (h .rec .edition) (h .rec)))
   played-run area m (some h) (question q t) = one (ask (asked area m h q t))
   played-run area m none (operate q o t work) = stop
   played-run area m none advance = stop
+  played-run area m none switchOver = stop
   played-run area m none (question q t) = stop
   played-run area m (some h) (glance u k t) = one (look (scan t (scan-made (imageLayout n s area) n s area u k)))
   played-run area m none (glance u k t) = one (look (scan t (scan-made (imageLayout n s area) n s area u k)))
@@ -199,8 +214,8 @@ module _ (n s : ℕ) where
   played-run area m none (glanceValue u k t) = one (look (scanValue t (scan-value-made (imageLayout n s area) n s area u k)))
   played-run area m (some h) (convertInto target) = one (look (convert (convert-made n s area target)))
   played-run area m none (convertInto target) = one (look (convert (convert-made n s area target)))
-  played-run area m (some h) (restart order cells) = one (recover (recover-made (imageLayout n s area) n s order area cells))
-  played-run area m none (restart order cells) = one (recover (recover-made (imageLayout n s area) n s order area cells))
+  played-run area m (some h) (restart order cells) = one (recover (recover-made (imageLayout n s area) n s order area cells refl))
+  played-run area m none (restart order cells) = one (recover (recover-made (imageLayout n s area) n s order area cells refl))
   played-run area m (some h) powerCut = one cuts
   played-run area m none powerCut = one cuts
 

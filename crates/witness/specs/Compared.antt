@@ -11,7 +11,7 @@ use Rattle.record.specs.declared.Tables.{Tables}
 use Rattle.model.specs.Operations.{write, delete, clean}
 use Rattle.model.specs.Refused.{Terms}
 use Rattle.model.specs.Table.{Row, row, failing, Hold, rows-hold}
-use Rattle.history.specs.Book.{reads, readsValue, tells, fewest, Call, starts, steps, asks, recovers, Event, called, cut, scans, scansValue, converts, joins}
+use Rattle.history.specs.Book.{reads, readsValue, tells, fewest, Call, starts, steps, switches, asks, recovers, Event, called, cut, scans, scansValue, converts, joins}
 
 -- ---- an event as numbers: what is told, with the place, the lengths lent, which call it is, and its arguments; and its value
 
@@ -34,6 +34,7 @@ callNumbers (asks (scansValue n s t k)) = 10 ∷ n ∷ s ∷ t .first ∷ t .las
 callNumbers (starts t (write k value)) = 6 ∷ expectedNumber (t .expected) ∷ t .tables .first ∷ t .tables .last ∷ k .table ∷ k .key ∷ value
 callNumbers (asks joins) = 11 ∷ []
 callNumbers (asks (converts n s)) = 12 ∷ n ∷ s ∷ []
+callNumbers switches = 13 ∷ []
 
 unfoldable pub eventNumbers : Event → List ℕ
 eventNumbers cut = []
@@ -73,7 +74,8 @@ callFrom (suc (suc (suc (suc (suc (suc (suc (suc (suc zero))))))))) xs = asks (s
 callFrom (suc (suc (suc (suc (suc (suc (suc (suc (suc (suc zero)))))))))) xs =
     asks (scansValue (getD xs 0 0) (getD xs 1 0) (tablesFrom (drop 2 xs)) (keyFrom (drop 4 xs)))
 callFrom (suc (suc (suc (suc (suc (suc (suc (suc (suc (suc (suc zero))))))))))) xs = asks joins
-callFrom (suc (suc (suc (suc (suc (suc (suc (suc (suc (suc (suc (suc n)))))))))))) xs = asks (converts (getD xs 0 0) (getD xs 1 0))
+callFrom (suc (suc (suc (suc (suc (suc (suc (suc (suc (suc (suc (suc zero)))))))))))) xs = asks (converts (getD xs 0 0) (getD xs 1 0))
+callFrom (suc (suc (suc (suc (suc (suc (suc (suc (suc (suc (suc (suc (suc n))))))))))))) xs = switches
 
 eventFrom : List ℕ → List ℕ → Event
 eventFrom [] value = cut
@@ -106,6 +108,7 @@ event-back (called (asks (scans n s t k)) l a) = refl
 event-back (called (asks (scansValue n s t k)) l a) = refl
 event-back (called (asks joins) l a) = refl
 event-back (called (asks (converts n s)) l a) = refl
+event-back (called switches l a) = refl
 event-back (called (starts t (clean victims)) l a) = ap (λ (x : Terms). called (starts x (clean victims)) l a) (terms-back t)
 event-back (called (starts t (delete k)) l a) = ap (λ (x : Terms). called (starts x (delete k)) l a) (terms-back t)
 event-back (called (starts t (write k value)) l a) = ap (λ (x : Terms). called (starts x (write k value)) l a) (terms-back t)

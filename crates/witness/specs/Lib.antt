@@ -6,5 +6,6 @@ pub mod Compared
 pub mod Example
 pub mod Applied
 pub mod Second
+pub mod Switched
 pub mod Carried
 pub mod Owners

@@ -9,7 +9,7 @@ use mathlib.Core.Option.{Option, none, some}
 use native.Mathlib.Omega.{arith}
 use lib.ListN.{length, getD, replicate}
 use Rattle.segment.specs.Choice.{both}
-use Rattle.segment.specs.Layout.{edition2, numberOfLayout}
+use Rattle.segment.specs.Layout.{Layout, edition2, numberOfLayout}
 use Rattle.record.specs.Answers.{refusal, saidBy, taken}
 use Rattle.record.specs.Reach.{holdsTable, allTables}
 use Rattle.record.specs.declared.FormatAnswer.{FormatAnswer}
@@ -25,6 +25,7 @@ use Rattle.model.specs.Recovery.{orderBad, recovery, imageLayout}
 use Rattle.model.specs.Table.{failing}
 use Rattle.history.specs.Book.{Event, cut, bookOf}
 use Rattle.history.specs.Demand3.{LargeEnough, bookAnswer, bookValue, GivesBook, Demand3Of}
+use Rattle.history.specs.Editions.{Editions, formattedIn, editionsAfter, editionsBehind, only-format}
 use Rattle.history.specs.Runs.{freshWorld, Run}
 use Rattle.history.proofs.Theorem.{demand-3}
 use Rattle.witness.specs.Answers.{recoveredCells, recover-made}
@@ -128,6 +129,11 @@ sixteen : all .world .cells ≡ some 16
 unfolding computing
 sixteen = refl
 
+-- no switch is among the events
+unswitched : editionsBehind (formattedIn edition2) events ≡ formattedIn edition2
+unfolding editionsBehind editionsAfter
+unswitched = refl
+
 ten-answer : bookAnswer edition2 two ≡ ReadAnswer.Present (record { 0 = 2 }) 10
 unfolding opened bookAnswer
 ten-answer = refl
@@ -139,14 +145,20 @@ unfolding bookAnswer bookValue holdsTable both
 left order cells cells′ r good large p =
     record {
       is-accepted = given .is-accepted;
-      second-edition = given .same-edition;
+      second-edition = only-format (editionsBehind (formattedIn edition2) events) (r .rec .edition) (ap (λ (E : Editions). E .switched) unswitched) (given .own-edition) ∙ ap (λ (E : Editions). E .format) unswitched;
       next-version = given .next-version ∙ book .next-version;
-      absent = λ a q. given .answers allTables nine nine-typed refl a q ∙ ap (bookAnswer edition2) (book .first-key);
-      present = λ a q. given .answers allTables ten ten-typed refl a q ∙ ap (bookAnswer edition2) (book .second-key) ∙ ten-answer;
+      absent = λ a q. let (K, its, answer) = given .answers allTables nine nine-typed refl a q in answer ∙ ap (bookAnswer K) (book .first-key);
+      present =
+          λ a q.
+          let (K, its, answer) = given .answers allTables ten ten-typed refl a q in
+          answer ∙ ap (bookAnswer K) (book .second-key)
+          ∙ ap (λ (L : Layout). bookAnswer L two)
+          (only-format (editionsBehind (formattedIn edition2) events) K (ap (λ (E : Editions). E .switched) unswitched) its ∙ ap (λ (E : Editions). E .format) unswitched)
+          ∙ ten-answer;
       value = λ v q. given .values allTables ten ten-typed refl v q ∙ ap bookValue (book .second-key);
     }
   where
-    given : GivesBook edition2 (all .world .area) cells′ r (bookOf events)
+    given : GivesBook (editionsBehind (formattedIn edition2) events) (all .world .area) cells′ r (bookOf events)
     given =
         demanded .recovery order cells cells′ r good (subst⁻¹ (λ (m : Option ℕ). LargeEnough m (length cells)) sixteen large) p
 
@@ -156,4 +168,4 @@ pub left-by :
     let L = imageLayout 4 256 (all .world .area) in
     let r = recovery L 4 256 (length cells) order (all .world .area) in
     Left (recoveredCells L 256 order (all .world .area) cells r) r
-left-by order cells good large = left order cells _ _ good large (recover-made (imageLayout 4 256 (all .world .area)) 4 256 order (all .world .area) cells)
+left-by order cells good large = left order cells _ _ good large (recover-made (imageLayout 4 256 (all .world .area)) 4 256 order (all .world .area) cells refl)

@@ -10,6 +10,7 @@ use Rattle.segment.specs.Choice.{pick}
 use Rattle.segment.specs.Layout.{Layout}
 use Rattle.segment.specs.Entry.{Found as Entered, entry, end, damage, entryAt, keyOf}
 use Rattle.record.specs.Answers.{storesLeft}
+use Rattle.record.specs.Switch.{newLayout}
 use Rattle.record.specs.declared.Commit.{Commit}
 use Rattle.record.specs.declared.Pending.{Pending}
 use Rattle.record.specs.declared.Pending.the-variants.{Idle, Append, NewHead, Clean, Forget}
@@ -19,7 +20,6 @@ use Rattle.model.specs.Log.{Placed, placeOf, segmentOf}
 use Rattle.model.specs.Causes.{firstCause}
 use Rattle.model.specs.Refused.{stepCauses}
 use Rattle.model.specs.Promises.{lentLengths, StepPromise}
-use Rattle.laws.specs.OperationsKept.{edition-roomy}
 use Rattle.index.specs.Insert.{Insertion, insertedAt, inserted, Tally, counted, over, tallied, insertNext, insertAll}
 use Rattle.index.specs.Search.{versionAt, searchFor}
 use Rattle.index.specs.Build.{finished, built}
@@ -112,21 +112,22 @@ module _ (L : Layout) (r : Record) (area cells : List ℕ) where
   either-long true a b p q = p
   either-long false a b p q = q
 
-  found-long : (done : Commit) (slot place : ℕ) (f : Entered) → Long (foundIn L r done area cells slot place f)
+  -- an entry of the head's layout, or of a new head's
+  found-long : (W : Layout) (done : Commit) (slot place : ℕ) (f : Entered) → Long (foundIn W r done area cells slot place f)
   unfolding foundIn
-  found-long done slot place (entry e) = length-inserted area cells place (r .next .0) (searchFor area cells (keyOf e))
-  found-long done slot place end = refl
-  found-long done slot place damage = refl
+  found-long W done slot place (entry e) = length-inserted area cells place (r .next .0) (searchFor area cells (keyOf e))
+  found-long W done slot place end = refl
+  found-long W done slot place damage = refl
 
-  entry-long : (done : Commit) (slot offset : ℕ) → Long (finishEntry L r done area cells slot offset)
+  entry-long : (W : Layout) (done : Commit) (slot offset : ℕ) → Long (finishEntry W r done area cells slot offset)
   unfolding finishEntry
-  entry-long done slot offset = found-long done slot (slot * r .size + offset) (entryAt L (segmentOf area (r .size) slot) offset)
+  entry-long W done slot offset = found-long W done slot (slot * r .size + offset) (entryAt W (segmentOf area (r .size) slot) offset)
 
   finish-long : (p : Pending) → Long (finishWith L r area cells p)
   unfolding finishWith finishAppend finishHead finishClean finishForget
   finish-long Idle = refl
-  finish-long (Append n k) = entry-long _ _ _
-  finish-long (NewHead i n k) = entry-long _ _ _
+  finish-long (Append n k) = entry-long L _ _ _
+  finish-long (NewHead i n k) = entry-long (newLayout r) _ _ _
   finish-long (Clean i v n k) = length-built L area (r .size) (cleanMap r i v) _ (length cells)
   finish-long (Forget i v n k) = length-built L area (r .size) (cleanMap r i v) _ (length cells)
 
@@ -146,8 +147,8 @@ module _ (L : Layout) (r : Record) (area cells work : List ℕ) where
   stored-made : cause ≡ none → (x : NextStore) → testedStore L (length area) work r ≡ x → Keeps (storedBy L r area cells x)
   unfolding storedBy
   stored-made first (At p b) e =
-      stored-promise L (edition-roomy L) r area cells work first p b e refl (advanced-long L r (set area p b) cells)
-  stored-made first Bad e = bad-promise L (edition-roomy L) r area cells work first e
+      stored-promise L r area cells work first p b e refl (advanced-long L r (set area p b) cells)
+  stored-made first Bad e = bad-promise L r area cells work first e
 
   unless-made : (c : Option Refusal) → cause ≡ c → Keeps (steppedUnless L r area cells work c)
   unfolding steppedUnless

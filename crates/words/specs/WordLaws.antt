@@ -1,5 +1,5 @@
 -- Encoding and decoding are inverse.
-use Prim.Native.Nat.{ℕ, zero, suc, _+_, _-_, _*_, _/_, _%_, _≤_, _<_}
+use Prim.Native.Nat.{ℕ, zero, suc, _+_, _*_, _/_, _%_, _≤_, _<_}
 use mathlib.Core.Path.{_≡_, refl, sym, ap, _∙_}
 use mathlib.Core.Bool.{Bool, true, false, not}
 use mathlib.Core.List.{List, [], _∷_, _++_, append-nil}
@@ -10,16 +10,16 @@ use lib.ListN.{length, getD, set, replicate, take, drop, take-append-drop, lengt
 use lib.Seq.{sets, sets-eq, length-sets, drop-cons, length-take-le, take-add, take-at, drop-set-lt}
 use borrow.Author.Tests.{leb-true, le-leb, lt-leb, eqb-true, eqb-false, eq-eqb, ne-eqb}
 use Rattle.segment.specs.Choice.{pick, pick-true, pick-false, both, both-left, both-right, both-false-left, both-false-right, both-true, either, isNone}
-use Rattle.segment.specs.Layout.{Layout, edition1, edition2, layoutNumbered, numberOfLayout, digestSize}
+use Rattle.segment.specs.Layout.{Layout, edition1, edition2, layoutNumbered, numberOfLayout}
 use Rattle.segment.specs.LayoutLaws.{numbered-layout}
 use Rattle.segment.specs.declared.Version.{Version}
 use Rattle.record.specs.Answers.{blank, bare, withPending}
-use Rattle.record.specs.Range.{between, leftGood, countsGood, lengthsOwn, fitsLent}
+use Rattle.record.specs.Range.{between, leftGood, countsGood, mostPresent, lengthsOwn, fitsLent}
 use Rattle.record.specs.RangeLaws.{numbersGood, frontGood, front-numbers, fits-front, blank-unfit, stop, go}
 use Rattle.record.specs.declared.Pending.{Pending}
 use Rattle.record.specs.declared.Pending.the-variants.{Idle, Append, NewHead, Clean, Forget}
 use Rattle.record.specs.declared.Record.{Record}
-use Rattle.words.specs.Words.{recordWords, numberWords, pendingWords, wordsOf, word, zeros, editionFits, editionOf, pendingFits, pendingOf, countsIn, recordIn, isRecord, decoded}
+use Rattle.words.specs.Words.{recordWords, numberWords, pendingWords, wordsOf, word, zeros, editionFits, editionOf, switchNumber, switchFits, switchOf, pendingFits, pendingOf, countsIn, recordIn, isRecord, decoded}
 use Rattle.words.specs.declared.Decoded.{Decoded}
 
 -- ---- what the code does, in its steps
@@ -55,6 +55,7 @@ recordWith w L v cs p =
       size = word w 1;
       cells = word w 2;
       edition = L;
+      switched = switchOf (word w 11);
       head = word w 3;
       end = word w 4;
       digest = record { 0 = word w 5 };
@@ -123,6 +124,35 @@ number-edition L = ap (λ (o : Option Layout). Option·getD o edition1) (numbere
 number-fits : (L : Layout) → editionFits (numberOfLayout L) ≡ true
 unfolding editionFits isNone
 number-fits L = ap (λ (o : Option Layout). not (isNone o)) (numbered-layout L)
+
+-- ---- the switch and its word
+
+pub switch-on : (t : Bool) → t ≡ true → 1 ≡ switchNumber t
+unfolding switchNumber pick
+switch-on t e = rw e
+
+pub switch-off : (t : Bool) → t ≡ false → 0 ≡ switchNumber t
+unfolding switchNumber pick
+switch-off t e = rw e
+
+-- the word is had back from the switch, and the switch from its word
+switch-number : (s : ℕ) → switchFits s ≡ true → switchNumber (switchOf s) ≡ s
+unfolding switchNumber pick
+switch-number zero f = refl
+switch-number (suc zero) f = refl
+switch-number (suc (suc s)) f =
+    let low : suc (suc s) ≤ 1 = leb-true (suc (suc s)) 1 f in
+    absurd (omega arith)
+
+number-switch : (t : Bool) → switchOf (switchNumber t) ≡ t
+unfolding switchNumber pick
+number-switch true = refl
+number-switch false = refl
+
+switch-fits : (t : Bool) → switchFits (switchNumber t) ≡ true
+unfolding switchNumber pick
+switch-fits true = refl
+switch-fits false = refl
 
 -- ---- the tests and the operation, tag by tag
 
@@ -218,8 +248,13 @@ pub no-edition : (w : List ℕ) → (word w 10 ≡ 1 → ⊥) → (word w 10 ≡
 unfolding isRecord
 no-edition w a b = both-false-right _ _ (both-false-left _ _ (edition-none (word w 10) a b))
 
+-- R-13: nor are words whose switch is neither 0 nor 1
+pub no-switch : (w : List ℕ) → 1 < word w 11 → isRecord w ≡ false
+unfolding isRecord
+no-switch w h = both-false-right _ _ (both-false-right _ _ (both-false-left _ _ (lt-leb (word w 11) 1 h)))
+
 pub long-enough : (w : List ℕ) → recordWords ≤ length w
-    → isRecord w ≡ both (editionFits (word w 10)) (both (eqb (word w 11) 0) (pendingFits (word w 12) (word w 13) (word w 14) (word w 15) (word w 16)))
+    → isRecord w ≡ both (editionFits (word w 10)) (both (switchFits (word w 11)) (pendingFits (word w 12) (word w 13) (word w 14) (word w 15) (word w 16)))
 unfolding isRecord both
 long-enough w h = rw (le-leb recordWords (length w) h)
 
@@ -234,7 +269,7 @@ module _ (L : Layout) (w : List ℕ) (a i : ℕ) where
 
   pub fits-said : isRecord w ≡ true
       → tested (decoded w)
-      ≡ both (frontGood L (bare (recordIn w))) (both (lengthsOwn (bare (recordIn w)) a i) (countsGood (word w 1 - digestSize L) (countsIn w)))
+      ≡ both (frontGood L (bare (recordIn w))) (both (lengthsOwn (bare (recordIn w)) a i) (countsGood (mostPresent (word w 1)) (countsIn w)))
   fits-said e = ap tested (decoded-record w e) ∙ fits-front L (recordIn w) a i
 
   -- the front's test with the stores left by their tag
@@ -262,9 +297,9 @@ module _ (L : Layout) (w : List ℕ) (a i : ℕ) where
       pub lengths-unfit : not u ≡ true → false ≡ tested (decoded w)
       lengths-unfit e = go _ front-is passed (stop _ own-is e) ∙ sym (fits-said are)
 
-      pub counts-decide : not u ≡ false → {v : Bool} → v ≡ countsGood (f .size - digestSize L) (countsIn w) → v ≡ tested (decoded w)
+      pub counts-decide : not u ≡ false → {v : Bool} → v ≡ countsGood (mostPresent (f .size)) (countsIn w) → v ≡ tested (decoded w)
       counts-decide e third =
-          go _ front-is passed (go _ own-is e (third ∙ ap (λ (r : Record). countsGood (r .size - digestSize L) (countsIn w)) front))
+          go _ front-is passed (go _ own-is e (third ∙ ap (λ (r : Record). countsGood (mostPresent (r .size)) (countsIn w)) front))
           ∙ sym (fits-said are)
 
   -- words that pass it are a record's, and say it
@@ -300,9 +335,9 @@ pending-five (Forget s v n k) = refl
 all-words : (r : Record) → length (r .counts) ≡ 32 → length (wordsOf r) ≡ recordWords
 all-words r l = omega (arith, length-append (pendingWords (r .pending)) (r .counts), pending-five (r .pending))
 
--- a record whose numbers are those of r, but for the edition, the next version and the counts
-abbrev likewise : Record → Layout → ℕ → List ℕ → Pending → Decoded
-likewise r L n c p =
+-- a record whose numbers are those of r, but for the edition, the switch, the next version and the counts
+abbrev likewise : Record → Layout → Bool → ℕ → List ℕ → Pending → Decoded
+likewise r L t n c p =
     record {
       ok = true;
       rec =
@@ -311,6 +346,7 @@ likewise r L n c p =
             size = r .size;
             cells = r .cells;
             edition = L;
+            switched = t;
             head = r .head;
             end = r .end;
             digest = r .digest;
@@ -333,27 +369,27 @@ module _ (r : Record) (rest : List ℕ) (l : length (r .counts) ≡ 32) where
   halves : r .next .0 % 4294967296 + 4294967296 * (r .next .0 / 4294967296) ≡ r .next .0
   halves = omega arith
 
-  likewise-same : (p : Pending) → likewise r (editionOf (numberOfLayout (r .edition))) (r .next .0 % 4294967296 + 4294967296 * (r .next .0 / 4294967296)) (take 32 (r .counts ++ rest)) p
+  likewise-same : (p : Pending) → likewise r (editionOf (numberOfLayout (r .edition))) (switchOf (switchNumber (r .switched))) (r .next .0 % 4294967296 + 4294967296 * (r .next .0 / 4294967296)) (take 32 (r .counts ++ rest)) p
       ≡ record { ok = true; rec = withPending r p }
-  likewise-same p = λ i. likewise r (number-edition (r .edition) i) (halves i) (front i) p
+  likewise-same p = λ i. likewise r (number-edition (r .edition) i) (number-switch (r .switched) i) (halves i) (front i) p
 
   says : (p : Pending) → decoded (numberWords r ++ pendingWords p ++ r .counts ++ rest) ≡ record { ok = true; rec = withPending r p }
   unfolding pendingFits pendingOf zeros pick both either
   says Idle =
       let w = numberWords r ++ pendingWords Idle ++ r .counts ++ rest in
-      decoded-record w (long-enough w (omega (arith, enough)) ∙ both-true _ _ (number-fits (r .edition)) refl) ∙ likewise-same Idle
+      decoded-record w (long-enough w (omega (arith, enough)) ∙ both-true _ _ (number-fits (r .edition)) (both-true _ _ (switch-fits (r .switched)) refl)) ∙ likewise-same Idle
   says (Append n k) =
       let w = numberWords r ++ pendingWords (Append n k) ++ r .counts ++ rest in
-      decoded-record w (long-enough w (omega (arith, enough)) ∙ both-true _ _ (number-fits (r .edition)) refl) ∙ likewise-same (Append n k)
+      decoded-record w (long-enough w (omega (arith, enough)) ∙ both-true _ _ (number-fits (r .edition)) (both-true _ _ (switch-fits (r .switched)) refl)) ∙ likewise-same (Append n k)
   says (NewHead s n k) =
       let w = numberWords r ++ pendingWords (NewHead s n k) ++ r .counts ++ rest in
-      decoded-record w (long-enough w (omega (arith, enough)) ∙ both-true _ _ (number-fits (r .edition)) refl) ∙ likewise-same (NewHead s n k)
+      decoded-record w (long-enough w (omega (arith, enough)) ∙ both-true _ _ (number-fits (r .edition)) (both-true _ _ (switch-fits (r .switched)) refl)) ∙ likewise-same (NewHead s n k)
   says (Clean s v n k) =
       let w = numberWords r ++ pendingWords (Clean s v n k) ++ r .counts ++ rest in
-      decoded-record w (long-enough w (omega (arith, enough)) ∙ both-true _ _ (number-fits (r .edition)) refl) ∙ likewise-same (Clean s v n k)
+      decoded-record w (long-enough w (omega (arith, enough)) ∙ both-true _ _ (number-fits (r .edition)) (both-true _ _ (switch-fits (r .switched)) refl)) ∙ likewise-same (Clean s v n k)
   says (Forget s v n k) =
       let w = numberWords r ++ pendingWords (Forget s v n k) ++ r .counts ++ rest in
-      decoded-record w (long-enough w (omega (arith, enough)) ∙ both-true _ _ (number-fits (r .edition)) refl) ∙ likewise-same (Forget s v n k)
+      decoded-record w (long-enough w (omega (arith, enough)) ∙ both-true _ _ (number-fits (r .edition)) (both-true _ _ (switch-fits (r .switched)) refl)) ∙ likewise-same (Forget s v n k)
 
 pub decode-encode : (r : Record) (w : List ℕ) → length (r .counts) ≡ 32 → recordWords ≤ length w
     → decoded (sets w 0 (wordsOf r)) ≡ record { ok = true; rec = r }
@@ -417,7 +453,7 @@ behind-sets [] w i n h = refl
 behind-sets (x ∷ vs) w i n h = behind-sets vs (set w i x) (suc i) n (omega arith) ∙ drop-set-lt n w i x (omega arith)
 
 module _ (w : List ℕ) (e : isRecord w ≡ true) where
-  tests : both (editionFits (word w 10)) (both (eqb (word w 11) 0) (pendingFits (word w 12) (word w 13) (word w 14) (word w 15) (word w 16))) ≡ true
+  tests : both (editionFits (word w 10)) (both (switchFits (word w 11)) (pendingFits (word w 12) (word w 13) (word w 14) (word w 15) (word w 16))) ≡ true
   tests = sym (long-enough w (record-long w e)) ∙ e
 
   pub pending-words : pendingWords (recordIn w .pending) ≡ word w 12 ∷ word w 13 ∷ word w 14 ∷ word w 15 ∷ word w 16 ∷ []
@@ -445,7 +481,7 @@ module _ (w : List ℕ) (e : isRecord w ≡ true) where
         let low : (word w 7 + 4294967296 * word w 8) % 4294967296 ≡ word w 7 = omega (arith, half) in
         let high : (word w 7 + 4294967296 * word w 8) / 4294967296 ≡ word w 8 = omega (arith, half) in
         let edition : numberOfLayout (editionOf (word w 10)) ≡ word w 10 = edition-number (word w 10) (both-left _ _ tests) in
-        let reserve : word w 11 ≡ 0 = eqb-true (word w 11) 0 (both-left _ _ (both-right _ _ tests)) in
+        let switch : switchNumber (switchOf (word w 11)) ≡ word w 11 = switch-number (word w 11) (both-left _ _ (both-right _ _ tests)) in
         let same : numberWords (recordIn w) ≡ take 12 w = sym (from-words w 0 12 (omega (arith, record-long w e)) ∙ cc) in
         ap (λ (l : List ℕ). sets w 0 l) same ∙ part-same w 0 12 (omega (arith, record-long w e))
 

@@ -1,7 +1,7 @@
 -- The store record as 49 words of 32 bits: its nine numbers in the order of its fields, the next version in two words; behind them the
--- number of its edition (02, R-11) and a word in reserve; then the pending operation: a tag, the new head's slot, the victims, the
--- length of what the work buffer holds, and the stores left; then the present bytes of the 32 slots. The word in reserve is 0, and so is
--- one that an operation has no use for. The reserve is for a switch.
+-- number of its edition (02, R-11) and whether the store is switched (R-13); then the pending operation: a tag, the new head's slot, the
+-- victims, the length of what the work buffer holds, and the stores left; then the present bytes of the 32 slots. A word that an
+-- operation has no use for is 0.
 use Prim.Native.Nat.{ℕ, _+_, _*_, _/_, _%_}
 use mathlib.Core.Bool.{Bool, true, false, not}
 use mathlib.Core.List.{List, [], _∷_, _++_}
@@ -29,8 +29,12 @@ pendingWords (NewHead s n k) = 2 ∷ s ∷ 0 ∷ n ∷ k ∷ []
 pendingWords (Clean s v n k) = 3 ∷ s ∷ v ∷ n ∷ k ∷ []
 pendingWords (Forget s v n k) = 4 ∷ s ∷ v ∷ n ∷ k ∷ []
 
+-- the word of the switch: 1 where the store is switched, else 0
+unfoldable pub switchNumber : Bool → ℕ
+switchNumber t = pick t 1 0
+
 abbrev pub numberWords : Record → List ℕ
-numberWords r = r .slots ∷ r .size ∷ r .cells ∷ r .head ∷ r .end ∷ r .digest .0 ∷ r .map ∷ r .next .0 % 4294967296 ∷ r .next .0 / 4294967296 ∷ r .keys ∷ numberOfLayout (r .edition) ∷ 0 ∷ []
+numberWords r = r .slots ∷ r .size ∷ r .cells ∷ r .head ∷ r .end ∷ r .digest .0 ∷ r .map ∷ r .next .0 % 4294967296 ∷ r .next .0 / 4294967296 ∷ r .keys ∷ numberOfLayout (r .edition) ∷ switchNumber (r .switched) ∷ []
 
 abbrev pub wordsOf : Record → List ℕ
 wordsOf r = numberWords r ++ pendingWords (r .pending) ++ r .counts
@@ -47,6 +51,14 @@ editionFits e = not (isNone (layoutNumbered e))
 -- the edition of that number; where there is none the words are no record's, and the first stands for it
 unfoldable pub editionOf : ℕ → Layout
 editionOf e = Option·getD (layoutNumbered e) edition1
+
+-- whether a word tells a switch: 0 or 1
+abbrev pub switchFits : ℕ → Bool
+switchFits s = leb s 1
+
+-- whether the store is switched, by that word
+abbrev pub switchOf : ℕ → Bool
+switchOf s = eqb s 1
 
 -- whether five words are those of a pending operation
 unfoldable pub pendingFits : ℕ → ℕ → ℕ → ℕ → ℕ → Bool
@@ -70,6 +82,7 @@ recordIn w =
       size = word w 1;
       cells = word w 2;
       edition = editionOf (word w 10);
+      switched = switchOf (word w 11);
       head = word w 3;
       end = word w 4;
       digest = record { 0 = word w 5 };
@@ -84,7 +97,7 @@ recordIn w =
 unfoldable pub isRecord : List ℕ → Bool
 isRecord w =
     both (leb recordWords (length w))
-    (both (editionFits (word w 10)) (both (eqb (word w 11) 0) (pendingFits (word w 12) (word w 13) (word w 14) (word w 15) (word w 16))))
+    (both (editionFits (word w 10)) (both (switchFits (word w 11)) (pendingFits (word w 12) (word w 13) (word w 14) (word w 15) (word w 16))))
 
 -- the record, or the blank one where the words are no record's
 unfoldable pub decoded : List ℕ → Decoded

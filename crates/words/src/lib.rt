@@ -21,18 +21,20 @@ ghost use Rattle.segment.specs.Layout.{numberOfLayout};
 ghost use Rattle.record.specs.Answers.{bare};
 ghost use Rattle.record.specs.Range.{fitsLent};
 ghost use Rattle.record.specs.RangeLaws.{numbersGood};
-ghost use Rattle.words.specs.Words.{recordWords, numberWords, pendingWords, zeros, editionFits, editionOf, pendingFits, pendingOf, wordsOf, countsIn, recordIn, isRecord, decoded};
+ghost use Rattle.words.specs.Words.{recordWords, numberWords, pendingWords, zeros, editionFits, editionOf, switchNumber, pendingFits, pendingOf, wordsOf, countsIn, recordIn, isRecord, decoded};
 ghost use Rattle.words.specs.WordLaws.{leftFits};
 
 // How many words a record takes.
 pub const WORDS: usize = 49;
 
-// The words of S, of M, of the edition and of the stores left.
+// The words of S, of M, of the edition, of the switch and of the stores left.
 pub const SIZE: usize = 1;
 
 pub const CELLS: usize = 2;
 
 pub const EDITION: usize = 10;
+
+pub const SWITCH: usize = 11;
 
 pub const LEFT: usize = 16;
 
@@ -91,7 +93,17 @@ fn edition_number(edition: Edition) -> u32
     }
 }
 
-// The numbers of a record before its pending operation, that of its edition behind them, and the word in reserve.
+// The word of the switch: 1 where the store is switched, else 0.
+fn switch_number(switched: bool) -> u32
+    ensures { λ r. ⌜ r ≡ switchNumber switched ⌝ }
+{
+    if switched {
+        return 1;
+    }
+    0
+}
+
+// The numbers of a record before its pending operation, and behind them that of its edition and whether the store is switched.
 fn put_numbers(rec: Record, words: &mut [u32])
     requires { ⌜ recordWords ≤ length (now words) ⌝ }
     ensures { λ _. ⌜ now (words .exit) ≡ sets (now (words .entry)) 0 (numberWords rec) ⌝ }
@@ -99,6 +111,7 @@ fn put_numbers(rec: Record, words: &mut [u32])
     let number = rec.digest;
     let next = rec.next;
     let edition = rec.edition;
+    let switched = rec.switched;
     words[0] = rec.slots;
     words[1] = rec.size;
     words[2] = rec.cells;
@@ -110,7 +123,7 @@ fn put_numbers(rec: Record, words: &mut [u32])
     words[8] = (next.0 / 4294967296) as u32;
     words[9] = rec.keys;
     words[EDITION] = edition_number(edition);
-    words[11] = 0;
+    words[SWITCH] = switch_number(switched);
 }
 
 // All of `from`, from a place of `to` on.
@@ -229,6 +242,7 @@ fn record_in(words: &[u32]) -> Record
         size: words[1],
         cells: words[2],
         edition,
+        switched: words[SWITCH] == 1,
         head: words[3],
         end: words[4],
         digest: DigestNumber(words[5]),
@@ -250,7 +264,7 @@ fn is_record(words: &[u32]) -> bool
     if !edition_fits(words[EDITION]) {
         return false;
     }
-    words[11] == 0 && pending_fits(words[12], words[13], words[14], words[15], words[16])
+    words[SWITCH] <= 1 && pending_fits(words[12], words[13], words[14], words[15], words[16])
 }
 
 pub fn decode(words: &[u32]) -> Decoded
@@ -277,6 +291,7 @@ pub fn front_in(words: &[u32]) -> Record
         size: words[1],
         cells: words[2],
         edition,
+        switched: words[SWITCH] == 1,
         head: words[3],
         end: words[4],
         digest: DigestNumber(words[5]),
@@ -306,7 +321,8 @@ fn front_fits(front: Record, tag: u32, left: u32) -> bool
     numbers_good(front) && left_fits(front.size, tag, left)
 }
 
-// The test of 4 that needs no look at the log, on a record where it stands: the 32 numbers are looked at among the words.
+// The test of 4 that needs no look at the log, on a record where it stands: the 32 numbers are looked at among the words. Their bound
+// goes by the shortest digest, the first edition's, whatever the head's is (02, R-13).
 pub fn fits(words: &[u32], area: usize, index: usize) -> bool
     ensures { λ r. ⌜ r ≡ fitsLent (decoded (now (words .entry)) .rec .edition) (decoded (now (words .entry)) .rec) area index ⌝ }
 {
@@ -320,9 +336,8 @@ pub fn fits(words: &[u32], area: usize, index: usize) -> bool
     if !lengths_own(front, area, index) {
         return false;
     }
-    let edition = front.edition;
     counts_good(
         &words[COUNTS..WORDS],
-        front.size - digest_size(edition) as u32,
+        front.size - digest_size(Edition::First) as u32,
     )
 }

@@ -13,9 +13,8 @@ use Rattle.segment.specs.Entry.{entry, entryAt, sizeOf, keyOf, answer, isTombst
 use Rattle.segment.specs.declared.Key.{Key}
 use Rattle.segment.specs.declared.Read.{Read}
 use Rattle.slot_map.specs.Bit.{named}
-use Rattle.record.specs.Answers.{withPending}
 use Rattle.record.specs.RangeLaws.{Lent}
-use Rattle.record.specs.declared.Pending.the-variants.{Idle}
+use Rattle.record.specs.Switch.{asRecovered}
 use Rattle.record.specs.declared.Record.{Record}
 use Rattle.model.specs.Log.{Placed, segmentOf, placeOf, viewsOf, latest, objectOnly, present, keysOf}
 use Rattle.model.specs.Index.{HasCell, startCell}
@@ -24,7 +23,7 @@ use Rattle.model.specs.Refused.{versionIn, keyFacts}
 use Rattle.model.specs.Promises.{Genuine}
 use Rattle.laws.specs.Members.{In}
 use Rattle.laws.specs.Latest.{latest-some, latest-has, latest-none, key-none}
-use Rattle.laws.specs.LogLaws.{AllScanned, log-in}
+use Rattle.laws.specs.LogLaws.{AllScanned}
 use Rattle.laws.specs.RecoverLaws.{recovered-case, recovered-keys}
 use Rattle.index.specs.Search.{probe, cellHas, searchFor}
 use Rattle.index.specs.SearchLaws.{search-within}
@@ -54,7 +53,7 @@ module _ (L : Layout) (area : List ℕ) (r : Record) (cells : List ℕ) (g : Gen
   scans : AllScanned (viewsOf area (r .size)) (named (r .map)) (r .slots)
   scans =
       recovered-case L (r .slots) (r .size) (r .cells) area (λ (x : Record). AllScanned (viewsOf area (r .size)) (named (x .map)) (r .slots))
-      (λ top l f. f .scans) (withPending r Idle) (g .recovers)
+      (λ top l f. f .scans) (asRecovered r) (g .recovers)
 
   stands : (x : Placed) → In x (logNow area r) → entryAt (x .layout) (segmentOf area (r .size) (x .slot)) (x .offset) ≡ entry (x .entry)
   stands x m = log-reads area (r .size) (named (r .map)) (r .slots) scans x m
@@ -66,7 +65,7 @@ module _ (L : Layout) (area : List ℕ) (r : Record) (cells : List ℕ) (g : Gen
   few =
       omega (
         arith,
-        recovered-keys L (r .slots) (r .size) (r .cells) area (withPending r Idle) (g .recovers),
+        recovered-keys L (r .slots) (r .size) (r .cells) area (asRecovered r) (g .recovers),
         h .keys-high,
         h .cells-low,
         h .index-own,

@@ -1,15 +1,14 @@
 -- From what the code decides and lays down to the promise of a start.
 use Prim.Native.Nat.{ℕ, _+_, _≤_}
 use mathlib.Core.Path.{_≡_, refl, sym, _∙_, ap}
-use mathlib.Core.Bool.{Bool, true, false}
-use mathlib.Core.List.{List, []}
+use mathlib.Core.Bool.{Bool, true, false, not}
+use mathlib.Core.List.{List, [], _∷_, _++_}
 use mathlib.Core.Option.{Option, none, some}
 use native.Mathlib.Omega.{arith}
-use lib.Dec.{leb}
 use lib.ListN.{length}
 use lib.Seq.{length-sets}
 use borrow.Author.Tests.{eq-eqb, eqb-false, ltb-false, not-false}
-use Rattle.segment.specs.Choice.{pick-false, both, orZero, not-none}
+use Rattle.segment.specs.Choice.{pick-false, both, both-left, both-false-left, orZero, not-none}
 use Rattle.segment.specs.Layout.{Layout, valueLength, objectKind, entrySize, digestSize, numberLimit, table}
 use Rattle.segment.specs.LayoutLaws.{object-kind, object-no-tombstone, tombstone-length}
 use Rattle.segment.specs.Entry.{Entry}
@@ -18,32 +17,39 @@ use Rattle.segment.specs.Written.{entryOf}
 use Rattle.segment.specs.declared.Key.{Key}
 use Rattle.record.specs.Range.{fitsLent}
 use Rattle.record.specs.RangeLaws.{Lent, lent}
+use Rattle.record.specs.Switch.{newLayout}
 use Rattle.record.specs.declared.Pending.{Pending}
 use Rattle.record.specs.declared.Refusal.{Refusal}
-use Rattle.record.specs.declared.Refusal.the-variants.{BadRecord}
+use Rattle.record.specs.declared.Refusal.the-variants.{BadRecord, NumbersSpent, NoRoom}
 use Rattle.record.specs.declared.Start.{Start}
 use Rattle.record.specs.declared.Record.{Record}
 use Rattle.record.specs.declared.Tables.{Tables}
 use Rattle.model.specs.Log.{Placed}
-use Rattle.model.specs.Causes.{Cause, firstCause}
-use Rattle.model.specs.Operations.{Operation, write, delete, logNow, writtenEntry, tombstoneEntry, Laid, laid, laidEntry}
-use Rattle.model.specs.Refused.{Lengths, Terms, reaching, KeyFacts, recordBad, workShort, noRoom, noNumber, reachCauses, writeCauses, deleteCauses, earlyCauses, startCauses}
+use Rattle.model.specs.Causes.{Cause, when, firstCause}
+use Rattle.model.specs.Operations.{Operation, write, delete, logNow, writtenEntry, tombstoneEntry, fitsWith, Laid, laid, laidEntry}
+use Rattle.model.specs.Refused.{Lengths, Terms, reaching, KeyFacts, recordBad, workShort, versionsSpent, numbersSpent, noRoom, noNumber, keptTooLong, forgetTooLong, forgetLength, reachCauses, writeCauses, deleteCauses, earlyCauses, startCauses}
 use Rattle.model.specs.Promises.{Genuine, Begun, begun, lentLengths, StartPromise}
-use Rattle.laws.specs.CauseLaws.{first-some}
-use Rattle.laws.specs.Passed.{WritePassed, write-passed, DeletePassed, delete-passed}
+use Rattle.laws.specs.CauseLaws.{NoCause, no-cause, first-some, first-none}
+use Rattle.laws.specs.Passed.{WritePassed, write-passed}
 use Rattle.laws.specs.Entering.{Roomy}
 use Rattle.laws.specs.SaidLaws.{start-settled}
 use Rattle.laws.specs.Starts.{early-bad, start-early}
 use Rattle.starting.specs.declared.Check.{Check}
-use Rattle.starting.specs.Checks.{checked}
-use Rattle.starting.specs.CheckLaws.{checked-some, checked-none}
+use Rattle.starting.specs.Checks.{checked, idleCauses}
+use Rattle.starting.specs.CheckLaws.{skipped, checked-some, checked-none, part-refused}
 use Rattle.starting.specs.NewHead.{NumberLeft}
 use Rattle.starting.specs.Answer.{startedWith, refusedStart}
-use Rattle.writing.specs.Tests.{factsFor}
+use Rattle.writing.specs.Tests.{firstTests, numberTests, presentTests, fullTests, factsFor}
 use Rattle.writing.specs.Laying.{laidBegun, EntryReady}
 use Rattle.writing.specs.Known.{genuine-facts}
 
 -- ---- any start
+
+none-some : (o : Option Refusal) (y : Refusal) → o ≡ none → o ≡ some y → ⊥
+none-some o y e f =
+    let p : _≡_ {A = Option Refusal} (some y) none = sym f ∙ e in
+    let z : _≡_ {A = ℕ} 0 1 = cc in
+    omega arith
 
 -- A start with these causes, as the code goes by them.
 module _ (L : Layout) (q : Terms) (o : Operation) (r : Record) (area cells work : List ℕ) (tests : List Cause) where
@@ -88,6 +94,23 @@ module _ (L : Layout) (q : Terms) (o : Operation) (r : Record) (area cells work 
             begun L r (logNow area r) o work (firstCause (startCauses L r (logNow area r) lengths q o))
         exact g = told (logNow area r) ∙ ap (begun L r (logNow area r) o work) (same g)
 
+    -- no early cause holds: nothing is promised of a store that is not genuine
+    pub start-decided :
+        ((y : Refusal) → firstCause (earlyCauses L r lengths q o) ≡ some y → ⊥) → (work′ : List ℕ) (a : Start) → length work′ ≡ length work →
+        (Genuine L area r cells → record { start = a; work = work′ } ≡ begun L r (logNow area r) o work (firstCause tests)) →
+        StartPromise L q o r area cells work work′ a
+    start-decided never work′ a long h =
+        record { same-length = long; early = early; exact = exact; says = start-settled L q o r area cells work work′ a early exact }
+      where
+        early :
+            (y : Refusal) → firstCause (earlyCauses L r lengths q o) ≡ some y → record { start = a; work = work′ } ≡ begun L r [] o work (some y)
+        early y b = absurd (never y b)
+
+        exact :
+            Genuine L area r cells → record { start = a; work = work′ } ≡
+            begun L r (logNow area r) o work (firstCause (startCauses L r (logNow area r) lengths q o))
+        exact g = h g ∙ ap (begun L r (logNow area r) o work) (same g)
+
     -- accepted: the operation is laid down, by the log of a genuine store
     pub start-laid :
         Check.Passed ≡ checked (firstCause tests) → (work′ : List ℕ) (a : Start) → length work′ ≡ length work →
@@ -95,22 +118,11 @@ module _ (L : Layout) (q : Terms) (o : Operation) (r : Record) (area cells work 
         StartPromise L q o r area cells work work′ a
     unfolding begun laidBegun
     start-laid passed work′ a long h =
-        record { same-length = long; early = early; exact = exact; says = start-settled L q o r area cells work work′ a early exact }
+        start-decided (λ y b. none-some (firstCause tests) y no-cause (c .early y b)) work′ a long
+        (λ g. h g ∙ ap (begun L r (logNow area r) o work) (sym no-cause))
       where
         no-cause : firstCause tests ≡ none
         no-cause = checked-none (firstCause tests) passed
-
-        early :
-            (y : Refusal) → firstCause (earlyCauses L r lengths q o) ≡ some y → record { start = a; work = work′ } ≡ begun L r [] o work (some y)
-        early y b =
-            let p : _≡_ {A = Option Refusal} (some y) none = sym (c .early y b) ∙ no-cause in
-            let z : _≡_ {A = ℕ} 0 1 = cc in
-            absurd (omega arith)
-
-        exact :
-            Genuine L area r cells → record { start = a; work = work′ } ≡
-            begun L r (logNow area r) o work (firstCause (startCauses L r (logNow area r) lengths q o))
-        exact g = h g ∙ ap (begun L r (logNow area r) o work) (sym no-cause ∙ same g)
 
 -- the work buffer keeps its length
 laid-long : (r : Record) (l : Laid) (work work′ : List ℕ) (a : Start) → record { start = a; work = work′ } ≡ laidBegun r l work → length work′ ≡ length work
@@ -136,7 +148,7 @@ module _ (L : Layout) (r : Record) (area cells work : List ℕ) (n : ℕ) where
         room = room;
       }
 
-  some-number : noNumber r (entrySize L n) ≡ false → leb (r .end + entrySize L n) (r .size) ≡ false → NumberLeft r
+  some-number : noNumber L r (entrySize L n) ≡ false → fitsWith L r (entrySize L n) ≡ false → NumberLeft r
   unfolding both
   some-number left f = eqb-false (r .digest .0) numberLimit (rw f at left)
 
@@ -186,7 +198,7 @@ module _ (L : Layout) (q : Terms) (r : Record) (area cells work : List ℕ) (k :
     pub write-ready : Roomy L → EntryReady L r (length value) (length work)
     write-ready roomy = entry-ready L r area cells work (length value) (written .record-good) (written .work-long) (write-room roomy)
 
-    pub write-number : leb (r .end + entrySize L (length value)) (r .size) ≡ false → NumberLeft r
+    pub write-number : fitsWith L r (entrySize L (length value)) ≡ false → NumberLeft r
     write-number f = some-number L r area cells work (length value) (written .number-left) f
 
     pub write-laid :
@@ -200,50 +212,116 @@ module _ (L : Layout) (q : Terms) (r : Record) (area cells work : List ℕ) (k :
 
 -- ---- a delete
 
+-- what is known once 4, 22, 3, 5, 8 and 9 are passed
+pub record PresentPassed (L : Layout) (r : Record) (l : Lengths) (k : KeyFacts) : Type 0 where
+  pub record-good : recordBad L r l ≡ false
+  pub work-long : workShort r l ≡ false
+  pub present : k .absent ≡ false
+  pub versions-left : versionsSpent r ≡ false
+
 module _ (L : Layout) (t : Tables) (r : Record) (area cells work : List ℕ) (k : Key) where
-  abbrev pub deleteTests : List Cause
-  deleteTests = deleteCauses L r (lentLengths area cells work) (reaching t) k (factsFor area cells k)
+  abbrev front : List Cause
+  front = presentTests L r (lentLengths area cells work) t k (factsFor area cells k)
 
-  abbrev pub deletes : Check
-  deletes = checked (firstCause deleteTests)
+  abbrev pub presents : Check
+  presents = checked (firstCause front)
 
-  pub delete-causes : Causes L (reaching t) (delete k) r area cells work deleteTests
+  -- how many bytes the one victim keeps
+  abbrev victimLength : ℕ
+  victimLength = forgetLength (newLayout r) r (logNow area r) k
+
+  -- all of its causes, by that length
+  abbrev deleteTests : List Cause
+  deleteTests = deleteCauses L r (lentLengths area cells work) (reaching t) k (factsFor area cells k) victimLength
+
+  abbrev roomCauses : List Cause
+  roomCauses = when (forgetTooLong L r victimLength) NoRoom ∷ when (noNumber L r (entrySize L 0)) NumbersSpent ∷ []
+
+  delete-causes : Causes L (reaching t) (delete k) r area cells work deleteTests
   unfolding laid startCauses earlyCauses
   delete-causes =
       record {
         early = λ x e. first-some (reachCauses L r (lentLengths area cells work) t k) _ x e;
-        agrees = λ g h. ap (λ (f : KeyFacts). firstCause (deleteCauses L r (lentLengths area cells work) (reaching t) k f)) (genuine-facts L area r cells g h k);
+        agrees = λ g h. ap (λ (f : KeyFacts). firstCause (deleteCauses L r (lentLengths area cells work) (reaching t) k f victimLength)) (genuine-facts L area r cells g h k);
       }
 
-  pub delete-refused :
-      (c : Refusal) → Check.Refused c ≡ deletes → (a : Start) → a ≡ refusedStart r c →
-      StartPromise L (reaching t) (delete k) r area cells work work a
-  delete-refused c e a is = start-refused L (reaching t) (delete k) r area cells work deleteTests delete-causes c e a is
+  in-parts : firstCause (front ++ roomCauses) ≡ firstCause deleteTests
+  unfolding presentTests firstTests idleCauses
+  in-parts = refl
 
-  module _ (passed : Check.Passed ≡ deletes) where
-    pub deleted : DeletePassed L r (lentLengths area cells work) (reaching t) k (factsFor area cells k)
-    deleted = delete-passed L r (lentLengths area cells work) (reaching t) k (factsFor area cells k) (checked-none _ passed)
+  pub delete-refused :
+      (c : Refusal) → Check.Refused c ≡ presents → (a : Start) → a ≡ refusedStart r c →
+      StartPromise L (reaching t) (delete k) r area cells work work a
+  delete-refused c e a is =
+      start-refused L (reaching t) (delete k) r area cells work deleteTests delete-causes c (part-refused front roomCauses c e ∙ ap checked in-parts) a is
+
+  module _ (passed : Check.Passed ≡ presents) where
+    pub deleted : PresentPassed L r (lentLengths area cells work) (factsFor area cells k)
+    unfolding presentTests firstTests idleCauses
+    deleted =
+        let x : NoCause front = no-cause front (checked-none _ passed) in
+        record { record-good = x .0; work-long = x .1 .1 .0; present = x .1 .1 .1 .1 .1 .0; versions-left = x .1 .1 .1 .1 .1 .1 .0 }
+
+    last-causes : firstCause deleteTests ≡ firstCause roomCauses
+    last-causes = sym in-parts ∙ first-none front roomCauses (checked-none _ passed)
 
     pub delete-ready : Roomy L → EntryReady L r 0 (length work)
     delete-ready roomy =
         entry-ready L r area cells work 0 (deleted .record-good) (deleted .work-long) (roomy .room (table L .tombstoneKind) 0 (tombstone-length L))
-
-    pub delete-number : leb (r .end + entrySize L 0) (r .size) ≡ false → NumberLeft r
-    delete-number f = some-number L r area cells work 0 (deleted .number-left) f
 
     pub delete-said : entryOf L (table L .tombstoneKind) k (r .next) [] ≡ tombstoneEntry r k
     delete-said =
         ap (λ (v : Option (List ℕ)). record { table = k .table; key = k .key; version = r .next .0; value = v })
         (value-tombstone L (table L .tombstoneKind) [] (eq-eqb (table L .tombstoneKind) (table L .tombstoneKind) refl))
 
-    -- where the tombstone finds room
-    pub delete-laid :
-        noRoom r (entrySize L 0) ≡ false → (work′ : List ℕ) (a : Start) →
-        record { start = a; work = work′ } ≡ laidBegun r (laidEntry L r (entryOf L (table L .tombstoneKind) k (r .next) [])) work →
-        StartPromise L (reaching t) (delete k) r area cells work work′ a
-    unfolding laid
-    delete-laid room work′ a h =
-        start-laid L (reaching t) (delete k) r area cells work deleteTests delete-causes passed work′ a (laid-long r _ work work′ a h)
-        (λ g.
-        h ∙ ap (λ (e : Entry). laidBegun r (laidEntry L r e) work) delete-said
-        ∙ ap (λ (x : Laid). laidBegun r x work) (sym (pick-false (noRoom r (entrySize L 0)) _ _ room)))
+    -- where the tombstone finds room, 10 alone is left: s is what the code finds for its length
+    module _ (room : noRoom L r (entrySize L 0) ≡ false) (s : ℕ) (size : s ≡ entrySize L 0) where
+      number-last : {c : Check} → c ≡ checked (firstCause (numberTests L r s)) → c ≡ checked (firstCause deleteTests)
+      unfolding numberTests
+      number-last e =
+          skipped _ _ (both-false-left (noRoom L r (entrySize L 0)) (keptTooLong r victimLength) room)
+          (e ∙ ap (λ (n : ℕ). checked (firstCause (numberTests L r n))) size)
+          ∙ ap checked (sym last-causes)
+
+      pub delete-spent :
+          (c : Refusal) → Check.Refused c ≡ checked (firstCause (numberTests L r s)) → (a : Start) → a ≡ refusedStart r c →
+          StartPromise L (reaching t) (delete k) r area cells work work a
+      delete-spent c e a is = start-refused L (reaching t) (delete k) r area cells work deleteTests delete-causes c (number-last e) a is
+
+      module _ (left : Check.Passed ≡ checked (firstCause (numberTests L r s))) where
+        pub delete-number : fitsWith L r (entrySize L 0) ≡ false → NumberLeft r
+        unfolding numberTests
+        delete-number f =
+            some-number L r area cells work 0
+            (ap (noNumber L r) (sym size) ∙ no-cause (numberTests L r s) (checked-none _ left) .0) f
+
+        pub delete-laid :
+            (work′ : List ℕ) (a : Start) →
+            record { start = a; work = work′ } ≡ laidBegun r (laidEntry L r (entryOf L (table L .tombstoneKind) k (r .next) [])) work →
+            StartPromise L (reaching t) (delete k) r area cells work work′ a
+        unfolding laid
+        delete-laid work′ a h =
+            start-laid L (reaching t) (delete k) r area cells work deleteTests delete-causes (number-last left) work′ a (laid-long r _ work work′ a h)
+            (λ g.
+            h ∙ ap (λ (e : Entry). laidBegun r (laidEntry L r e) work) delete-said
+            ∙ ap (λ (x : Laid). laidBegun r x work) (sym (pick-false (noRoom L r (entrySize L 0)) _ _ room)))
+
+    -- where it finds none, 12 goes by what the victim keeps, and 10 comes behind
+    module _ (full : noRoom L r (entrySize L 0) ≡ true) where
+      full-last : firstCause deleteTests ≡ firstCause (fullTests r (keptTooLong r victimLength))
+      unfolding fullTests both
+      full-last =
+          last-causes
+          ∙ ap (λ (x : Bool). firstCause (when (both x (keptTooLong r victimLength)) NoRoom ∷ when (noNumber L r (entrySize L 0)) NumbersSpent ∷ [])) full
+          ∙ ap (λ (x : Bool). firstCause (when (keptTooLong r victimLength) NoRoom ∷ when (both x (numbersSpent r)) NumbersSpent ∷ [])) (both-left (not (fitsWith L r (entrySize L 0))) _ full)
+
+      pub delete-full :
+          (work′ : List ℕ) (a : Start) → length work′ ≡ length work →
+          (Genuine L area r cells → record { start = a; work = work′ } ≡
+          begun L r (logNow area r) (delete k) work (firstCause (fullTests r (keptTooLong r victimLength)))) →
+          StartPromise L (reaching t) (delete k) r area cells work work′ a
+      unfolding earlyCauses presentTests firstTests
+      delete-full work′ a long h =
+          start-decided L (reaching t) (delete k) r area cells work deleteTests delete-causes
+          (λ y b. none-some (firstCause front) y (checked-none _ passed) (first-some (reachCauses L r (lentLengths area cells work) t k) _ y b)) work′ a long
+          (λ g. h g ∙ ap (begun L r (logNow area r) (delete k) work) (sym full-last))

@@ -3,11 +3,11 @@ use Prim.Native.Nat.{ℕ, _+_, _-_, _≤_}
 use mathlib.Core.Path.{_≡_, sym, _∙_, ap}
 use mathlib.Core.Bool.{Bool, true, false, not}
 use mathlib.Core.List.{List, [], _∷_, _++_}
-use lib.Dec.{eqb, ltb, leb}
+use lib.Dec.{eqb, ltb}
 use lib.ListN.{getD}
-use borrow.Author.Tests.{eq-eqb, ne-eqb, not-false}
+use borrow.Author.Tests.{eq-eqb, ne-eqb, eqb-false, not-false}
 use Rattle.segment.specs.Choice.{both, both-true, both-false-left, both-false-right, isNone, orZero}
-use Rattle.segment.specs.Layout.{Layout, objectKind, entrySize, digestSize, versionLimit, numberLimit}
+use Rattle.segment.specs.Layout.{Layout, objectKind, entrySize, digestSize, numberLimit}
 use Rattle.segment.specs.LayoutLaws.{object-kind}
 use Rattle.segment.specs.Area.{standsAt}
 use Rattle.segment.specs.Kinds.{no-kind, has-kind}
@@ -24,17 +24,19 @@ use Rattle.record.specs.declared.Tables.{Tables}
 use Rattle.record.specs.Reach.{holdsTable}
 use Rattle.record.specs.RangeLaws.{Lent, lent}
 use Rattle.model.specs.Causes.{Cause, when, firstCause}
-use Rattle.model.specs.Refused.{Lengths, Terms, reaching, KeyFacts, expectsOther, reachCauses, writeCauses, deleteCauses, noRoom}
+use Rattle.model.specs.Operations.{fitsWith}
+use Rattle.model.specs.Refused.{Lengths, Terms, KeyFacts, expectsOther, versionsSpent, numbersSpent, reachCauses, writeCauses, noRoom}
 use Rattle.laws.specs.Entering.{Roomy}
-use Rattle.laws.specs.CauseLaws.{no-cause}
+use Rattle.laws.specs.CauseLaws.{NoCause, no-cause}
 use Rattle.index.specs.Search.{searchFor}
 use Rattle.index.specs.declared.Found.the-variants.{At, Free, Full}
 use Rattle.starting.specs.declared.Check.{Check}
 use Rattle.starting.specs.Checks.{checked, idleCauses}
+use Rattle.starting.specs.NewHead.{NumberLeft}
 use Rattle.starting.specs.CheckLaws.{refused, skipped, passed, checked-none, part-refused, part-passed, record-bad}
 use Rattle.writing.specs.declared.Presence.{Presence}
 use Rattle.writing.specs.declared.Presence.the-variants.{Object, Nothing, Forbidden}
-use Rattle.writing.specs.Tests.{factsOf, presenceOf, presenceAt, presenceFor, firstTests, versionTests, expectedTests, keyTests, numberTests, roomTests, entryTests}
+use Rattle.writing.specs.Tests.{factsOf, presenceOf, presenceAt, presenceFor, firstTests, versionTests, expectedTests, keyTests, numberTests, roomTests, entryTests, presentTests, fullTests}
 
 -- ---- 21
 
@@ -95,34 +97,34 @@ module _ (r : Record) where
 
 -- ---- 12 and 10: t is what the code finds for the fit, and f for the free slots
 
-module _ (r : Record) (n : ℕ) (t : Bool) (e : t ≡ leb (r .end + n) (r .size)) where
-  pub room-fits : t ≡ true → false ≡ noRoom r n
+module _ (L : Layout) (r : Record) (n : ℕ) (t : Bool) (e : t ≡ fitsWith L r n) where
+  pub room-fits : t ≡ true → false ≡ noRoom L r n
   room-fits h = sym (both-false-left _ _ (ap not (sym e ∙ h)))
 
-  pub room-free : t ≡ false → (f : ℕ) → f ≡ free (r .slots) (r .map) → ltb f 2 ≡ noRoom r n
+  pub room-free : t ≡ false → (f : ℕ) → f ≡ free (r .slots) (r .map) → ltb f 2 ≡ noRoom L r n
   unfolding both
   room-free out f q = rw (sym e ∙ out, q)
 
-  pub number-fits : t ≡ true → Check.Passed ≡ checked (firstCause (numberTests r n))
+  pub number-fits : t ≡ true → Check.Passed ≡ checked (firstCause (numberTests L r n))
   unfolding numberTests
   number-fits h = skipped _ _ (both-false-left _ _ (ap not (sym e ∙ h))) passed
 
   module _ (out : t ≡ false) where
-    pub number-spent : r .digest .0 ≡ numberLimit → Check.Refused NumbersSpent ≡ checked (firstCause (numberTests r n))
+    pub number-spent : r .digest .0 ≡ numberLimit → Check.Refused NumbersSpent ≡ checked (firstCause (numberTests L r n))
     unfolding numberTests
     number-spent h = refused _ _ (both-true _ _ (ap not (sym e ∙ out)) (eq-eqb (r .digest .0) numberLimit h))
 
-    pub number-left : (r .digest .0 ≡ numberLimit → ⊥) → Check.Passed ≡ checked (firstCause (numberTests r n))
+    pub number-left : (r .digest .0 ≡ numberLimit → ⊥) → Check.Passed ≡ checked (firstCause (numberTests L r n))
     unfolding numberTests
     number-left h = skipped _ _ (both-false-right _ _ (ne-eqb (r .digest .0) numberLimit h)) passed
 
 -- t is what the code finds for the room
-module _ (r : Record) (n : ℕ) {t : Bool} (e : t ≡ noRoom r n) where
-  pub room-none : t ≡ true → Check.Refused NoRoom ≡ checked (firstCause (roomTests r n))
+module _ (L : Layout) (r : Record) (n : ℕ) {t : Bool} (e : t ≡ noRoom L r n) where
+  pub room-none : t ≡ true → Check.Refused NoRoom ≡ checked (firstCause (roomTests L r n))
   unfolding roomTests
   room-none h = refused _ _ (sym e ∙ h)
 
-  pub room-enough : {a : Check} → t ≡ false → a ≡ checked (firstCause (numberTests r n)) → a ≡ checked (firstCause (roomTests r n))
+  pub room-enough : {a : Check} → t ≡ false → a ≡ checked (firstCause (numberTests L r n)) → a ≡ checked (firstCause (roomTests L r n))
   unfolding roomTests
   room-enough h g = skipped _ _ (sym e ∙ h) g
 
@@ -144,20 +146,20 @@ kind-room L n k roomy e z = roomy .room k n (object-kind L n k (has-kind L n k e
 -- ---- 9, 11, 12 and 10
 
 module _ (L : Layout) (r : Record) (k : KeyFacts) (n : ℕ) where
-  pub entry-spent : r .next .0 ≡ versionLimit L → Check.Refused VersionsSpent ≡ checked (firstCause (entryTests L r k n))
+  pub entry-spent : versionsSpent r ≡ true → Check.Refused VersionsSpent ≡ checked (firstCause (entryTests L r k n))
   unfolding entryTests
-  entry-spent h = refused _ _ (eq-eqb (r .next .0) (versionLimit L) h)
+  entry-spent h = refused _ _ h
 
-  module _ (left : r .next .0 ≡ versionLimit L → ⊥) where
+  module _ (left : versionsSpent r ≡ false) where
     pub entry-key : (c : Refusal) → Check.Refused c ≡ checked (firstCause (keyTests r k)) → Check.Refused c ≡ checked (firstCause (entryTests L r k n))
     unfolding entryTests
-    entry-key c h = skipped _ _ (ne-eqb (r .next .0) (versionLimit L) left) (part-refused (keyTests r k) (roomTests r n) c h)
+    entry-key c h = skipped _ _ left (part-refused (keyTests r k) (roomTests L r n) c h)
 
     pub entry-room :
-        {a : Check} → Check.Passed ≡ checked (firstCause (keyTests r k)) → a ≡ checked (firstCause (roomTests r n)) →
+        {a : Check} → Check.Passed ≡ checked (firstCause (keyTests r k)) → a ≡ checked (firstCause (roomTests L r n)) →
         a ≡ checked (firstCause (entryTests L r k n))
     unfolding entryTests
-    entry-room h g = skipped _ _ (ne-eqb (r .next .0) (versionLimit L) left) (part-passed (keyTests r k) (roomTests r n) h g)
+    entry-room h g = skipped _ _ left (part-passed (keyTests r k) (roomTests L r n) h g)
 
 -- ---- 4, 22, 3 and 5: x is what the code finds for the range and the lengths, and y for the key's table
 
@@ -238,20 +240,20 @@ module _ (area cells : List ℕ) (k : Key) where
 -- ---- a delete: p is what the code finds for the key
 
 module _ (L : Layout) (r : Record) (l : Lengths) (t : Tables) (j : Key) (p : Presence) where
-  abbrev DeleteIs : Check → Type 0
-  DeleteIs a = a ≡ checked (firstCause (deleteCauses L r l (reaching t) j (factsOf p)))
+  abbrev PresentIs : Check → Type 0
+  PresentIs a = a ≡ checked (firstCause (presentTests L r l t j (factsOf p)))
 
-  pub delete-first : (c : Refusal) → Check.Refused c ≡ checked (firstCause (firstTests L r l t j)) → DeleteIs (Check.Refused c)
-  unfolding firstTests idleCauses
+  pub delete-first : (c : Refusal) → Check.Refused c ≡ checked (firstCause (firstTests L r l t j)) → PresentIs (Check.Refused c)
+  unfolding presentTests
   delete-first c h = part-refused (firstTests L r l t j) _ c h
 
   module _ (first : Check.Passed ≡ checked (firstCause (firstTests L r l t j))) where
-    pub delete-forbidden : Forbidden ≡ p → DeleteIs (Check.Refused BadRecord)
-    unfolding firstTests idleCauses factsOf
+    pub delete-forbidden : Forbidden ≡ p → PresentIs (Check.Refused BadRecord)
+    unfolding presentTests factsOf
     delete-forbidden q = part-passed (firstTests L r l t j) _ first (refused _ _ (ap (λ (x : Presence). factsOf x .forbidden) (sym q)))
 
-    pub delete-absent : (x : Presence) → x ≡ p → factsOf x .forbidden ≡ false → factsOf x .absent ≡ true → DeleteIs (Check.Refused Refusal.Absent)
-    unfolding firstTests idleCauses
+    pub delete-absent : (x : Presence) → x ≡ p → factsOf x .forbidden ≡ false → factsOf x .absent ≡ true → PresentIs (Check.Refused Refusal.Absent)
+    unfolding presentTests
     delete-absent x q sound absent =
         part-passed (firstTests L r l t j) _ first
         (skipped _ _ (ap (λ (y : Presence). factsOf y .forbidden) (sym q) ∙ sound)
@@ -264,15 +266,41 @@ module _ (L : Layout) (r : Record) (l : Lengths) (t : Tables) (j : Key) (p : Pre
       known-goes cs h =
           skipped _ _ (ap (λ (y : Presence). factsOf y .forbidden) (sym q)) (skipped _ _ (ap (λ (y : Presence). factsOf y .absent) (sym q)) h)
 
-      pub delete-spent : r .next .0 ≡ versionLimit L → DeleteIs (Check.Refused VersionsSpent)
-      unfolding firstTests idleCauses
-      delete-spent h = part-passed (firstTests L r l t j) _ first (known-goes _ (refused _ _ (eq-eqb (r .next .0) (versionLimit L) h)))
+      pub delete-spent : versionsSpent r ≡ true → PresentIs (Check.Refused VersionsSpent)
+      unfolding presentTests
+      delete-spent h = part-passed (firstTests L r l t j) _ first (known-goes _ (refused _ _ h))
 
-      -- s is what the code finds for the length of the tombstone
-      pub delete-number :
-          {a : Check} (s : ℕ) → s ≡ entrySize L 0 → (r .next .0 ≡ versionLimit L → ⊥) → a ≡ checked (firstCause (numberTests r s)) → DeleteIs a
-      unfolding firstTests idleCauses numberTests
-      delete-number s e left g =
-          part-passed (firstTests L r l t j) _ first
-          (known-goes _
-          (skipped _ _ (ne-eqb (r .next .0) (versionLimit L) left) (g ∙ ap (λ (x : ℕ). checked (firstCause (numberTests r x))) e)))
+      pub delete-known : versionsSpent r ≡ false → PresentIs Check.Passed
+      unfolding presentTests
+      delete-known left = part-passed (firstTests L r l t j) _ first (known-goes _ (skipped _ _ left passed))
+
+-- ---- 12 and 10 of a delete that finds no room: t is what the code finds for the fit of what its victim keeps
+
+module _ (r : Record) (t : Bool) where
+  abbrev FullIs : Check → Type 0
+  FullIs a = a ≡ checked (firstCause (fullTests r (not t)))
+
+  pub full-long : not t ≡ true → FullIs (Check.Refused NoRoom)
+  unfolding fullTests
+  full-long h = refused _ _ h
+
+  pub full-spent : not t ≡ false → numbersSpent r ≡ true → FullIs (Check.Refused NumbersSpent)
+  unfolding fullTests
+  full-spent fits h = skipped _ _ fits (refused _ _ h)
+
+  pub full-left : not t ≡ false → numbersSpent r ≡ false → FullIs Check.Passed
+  unfolding fullTests
+  full-left fits h = skipped _ _ fits (skipped _ _ h passed)
+
+  -- what they leave
+  module _ (h : FullIs Check.Passed) where
+    left : NoCause (fullTests r (not t))
+    left = no-cause (fullTests r (not t)) (checked-none _ h)
+
+    pub full-fits : t ≡ true
+    unfolding fullTests
+    full-fits = not-false t (left .0)
+
+    pub full-number : NumberLeft r
+    unfolding fullTests
+    full-number = eqb-false (r .digest .0) numberLimit (left .1 .0)

@@ -1,7 +1,7 @@
 -- What the starts of a write and of a delete find out about a key from area and index in place of the log, and the parts of
 -- the lists of causes that functions of their own test.
 use Prim.Native.Nat.{ℕ, _-_}
-use mathlib.Core.Bool.{true, false}
+use mathlib.Core.Bool.{Bool, true, false}
 use mathlib.Core.List.{List, [], _∷_, _++_}
 use lib.ListN.{getD}
 use Rattle.segment.specs.Layout.{Layout}
@@ -9,11 +9,11 @@ use Rattle.segment.specs.Area.{standsAt}
 use Rattle.segment.specs.declared.Key.{Key}
 use Rattle.segment.specs.declared.Read.{Read}
 use Rattle.record.specs.declared.Expected.{Expected}
-use Rattle.record.specs.declared.Refusal.the-variants.{BadRecord, VersionsSpent, NumbersSpent, KeysFull, NoRoom, OtherVersion}
+use Rattle.record.specs.declared.Refusal.the-variants.{BadRecord, Absent, VersionsSpent, NumbersSpent, KeysFull, NoRoom, OtherVersion}
 use Rattle.record.specs.declared.Record.{Record}
 use Rattle.record.specs.declared.Tables.{Tables}
 use Rattle.model.specs.Causes.{Cause, when}
-use Rattle.model.specs.Refused.{Lengths, reachCauses, KeyFacts, expectsOther, versionsSpent, keysFull, noRoom, noNumber}
+use Rattle.model.specs.Refused.{Lengths, reachCauses, KeyFacts, expectsOther, versionsSpent, numbersSpent, keysFull, noRoom, noNumber}
 use Rattle.starting.specs.Checks.{idleCauses}
 use Rattle.index.specs.Search.{searchFor}
 use Rattle.index.specs.declared.Found.{Found}
@@ -68,13 +68,22 @@ unfoldable pub keyTests : Record → KeyFacts → List Cause
 keyTests r k = when (keysFull r k) KeysFull ∷ []
 
 -- 10, for an entry of n bytes
-unfoldable pub numberTests : Record → ℕ → List Cause
-numberTests r n = when (noNumber r n) NumbersSpent ∷ []
+unfoldable pub numberTests : Layout → Record → ℕ → List Cause
+numberTests L r n = when (noNumber L r n) NumbersSpent ∷ []
 
 -- 12 and 10
-unfoldable pub roomTests : Record → ℕ → List Cause
-roomTests r n = when (noRoom r n) NoRoom ∷ numberTests r n
+unfoldable pub roomTests : Layout → Record → ℕ → List Cause
+roomTests L r n = when (noRoom L r n) NoRoom ∷ numberTests L r n
 
 -- 9, 11, 12 and 10, for an entry of n bytes
 unfoldable pub entryTests : Layout → Record → KeyFacts → ℕ → List Cause
-entryTests L r k n = when (versionsSpent L r) VersionsSpent ∷ (keyTests r k ++ roomTests r n)
+entryTests L r k n = when (versionsSpent r) VersionsSpent ∷ (keyTests r k ++ roomTests L r n)
+
+-- 4, 22, 3, 5, 8 and 9 of a delete
+unfoldable pub presentTests : Layout → Record → Lengths → Tables → Key → KeyFacts → List Cause
+presentTests L r l t j k =
+    firstTests L r l t j ++ when (k .forbidden) BadRecord ∷ when (k .absent) Absent ∷ when (versionsSpent r) VersionsSpent ∷ []
+
+-- 12 and 10 of a delete whose tombstone finds no room, by whether what its victim keeps is too long for the new head
+unfoldable pub fullTests : Record → Bool → List Cause
+fullTests r long = when long NoRoom ∷ when (numbersSpent r) NumbersSpent ∷ []

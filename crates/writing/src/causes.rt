@@ -5,6 +5,7 @@ use record::Expected;
 use record::Record;
 use record::Refusal;
 use record::Tables;
+use record::new_edition;
 use record::range::fits_lent;
 use record::reach::holds_table;
 use segment::Key;
@@ -15,17 +16,17 @@ use segment::layout::object_kind;
 use segment::layout::version_limit;
 use starting::Check;
 use starting::checks::check_idle;
-ghost use Prim.Native.Nat.{_+_, _^_, _≤_, _<_};
+ghost use Prim.Native.Nat.{_^_, _≤_, _<_};
 ghost use mathlib.Core.Path.{_≡_};
 ghost use mathlib.Core.Bool.{true};
-ghost use lib.Dec.{leb};
 ghost use lib.ListN.{length};
 ghost use Rattle.record.specs.Range.{fitsLent};
 ghost use Rattle.model.specs.Causes.{firstCause};
-ghost use Rattle.model.specs.Refused.{noRoom, reaching, writeCauses, deleteCauses};
+ghost use Rattle.model.specs.Operations.{fitsWith};
+ghost use Rattle.model.specs.Refused.{versionsSpent, noRoom, writeCauses};
 ghost use Rattle.starting.specs.Checks.{checked};
 ghost use Rattle.writing.specs.declared.Presence.{Presence};
-ghost use Rattle.writing.specs.Tests.{firstTests, versionTests, expectedTests, keyTests, numberTests, roomTests, entryTests, factsOf, factsFor};
+ghost use Rattle.writing.specs.Tests.{firstTests, versionTests, expectedTests, keyTests, numberTests, roomTests, entryTests, presentTests, factsOf, factsFor};
 
 // 22, 3 and 5, for a record that has passed 4's test of range and lengths: what the record, the lengths and the caller's reach tell.
 fn check_first(
@@ -48,18 +49,20 @@ fn check_first(
     check_idle(rec, work)
 }
 
-// Whether an entry of that length fits the head; it may end exactly at S.
+// Whether an entry of that length fits the head: it may end exactly at S, and the versions of the head's edition last (02, R-13).
 pub fn fits_head(rec: Record, length: usize) -> bool
     requires { ⌜ length ≤ 256 ⌝ }
-    ensures { λ r. ⌜ r ≡ leb (rec .end + length) (rec .size) ⌝ }
+    ensures { λ r. ⌜ r ≡ fitsWith (rec .edition) rec length ⌝ }
 {
-    rec.end as usize + length <= rec.size as usize
+    let edition = rec.edition;
+    let next = rec.next;
+    rec.end as usize + length <= rec.size as usize && next.0 < version_limit(edition)
 }
 
 // Whether an entry of that length finds no room: it does not fit the head, and fewer than two slots are free.
 pub fn no_room(rec: Record, length: usize) -> bool
     requires { ⌜ (length ≤ 256) × (rec .map < 2 ^ rec .slots) ⌝ }
-    ensures { λ r. ⌜ r ≡ noRoom rec length ⌝ }
+    ensures { λ r. ⌜ r ≡ noRoom (rec .edition) rec length ⌝ }
 {
     if fits_head(rec, length) {
         return false;
@@ -68,9 +71,9 @@ pub fn no_room(rec: Record, length: usize) -> bool
 }
 
 // 10, which only a new head brings.
-fn check_number(rec: Record, length: usize) -> Check
+pub fn check_number(rec: Record, length: usize) -> Check
     requires { ⌜ length ≤ 256 ⌝ }
-    ensures { λ r. ⌜ r ≡ checked (firstCause (numberTests rec length)) ⌝ }
+    ensures { λ r. ⌜ r ≡ checked (firstCause (numberTests (rec .edition) rec length)) ⌝ }
 {
     if fits_head(rec, length) {
         return Check::Passed;
@@ -85,7 +88,7 @@ fn check_number(rec: Record, length: usize) -> Check
 // 12 and 10.
 fn check_room(rec: Record, length: usize) -> Check
     requires { ⌜ (length ≤ 256) × (rec .map < 2 ^ rec .slots) ⌝ }
-    ensures { λ r. ⌜ r ≡ checked (firstCause (roomTests rec length)) ⌝ }
+    ensures { λ r. ⌜ r ≡ checked (firstCause (roomTests (rec .edition) rec length)) ⌝ }
 {
     if no_room(rec, length) {
         return Check::Refused(Refusal::NoRoom);
@@ -144,14 +147,20 @@ fn check_key(rec: Record, presence: Presence) -> Check
     }
 }
 
+// 9: the versions of the edition that new heads have are spent.
+fn versions_spent(rec: Record) -> bool
+    ensures { λ r. ⌜ r ≡ versionsSpent rec ⌝ }
+{
+    let next = rec.next;
+    next.0 == version_limit(new_edition(rec))
+}
+
 // 9, 11, 12 and 10, for an entry of that length.
 fn check_entry(rec: Record, presence: Presence, length: usize) -> Check
     requires { ⌜ (length ≤ 256) × (rec .map < 2 ^ rec .slots) × (1 ≤ rec .cells) ⌝ }
     ensures { λ r. ⌜ r ≡ checked (firstCause (entryTests (rec .edition) rec (factsOf presence) length)) ⌝ }
 {
-    let edition = rec.edition;
-    let next = rec.next;
-    if next.0 == version_limit(edition) {
+    if versions_spent(rec) {
         return Check::Refused(Refusal::VersionsSpent);
     }
     match check_key(rec, presence) {
@@ -225,7 +234,7 @@ pub fn check_write(
     check_fitting(rec, area, index, work, tables, expected, key, value)
 }
 
-// Delete: 4, 22, 3, 5, 8, 9, 10.
+// Delete: 4, 22, 3, 5, 8, 9. The next test is by the room for the tombstone: `check_number`, or `full::check_full` where it finds none.
 pub fn check_delete(
     rec: Record,
     area: &[u8],
@@ -238,12 +247,11 @@ pub fn check_delete(
         ⌜
         r ≡ checked
         (firstCause
-        (deleteCauses (rec .edition) rec
+        (presentTests (rec .edition) rec
         (record { area = length (now (area .entry)); index = length (now (index .entry)); work = work })
-        (reaching tables) key (factsFor (now (area .entry)) (now (index .entry)) key)))
+        tables key (factsFor (now (area .entry)) (now (index .entry)) key)))
         ⌝ }
 {
-    let edition = rec.edition;
     if !fits_lent(rec, area.len(), index.len()) {
         return Check::Refused(Refusal::BadRecord);
     }
@@ -254,11 +262,10 @@ pub fn check_delete(
             Presence::Nothing => Check::Refused(Refusal::Absent),
             Presence::Tombstone => Check::Refused(Refusal::Absent),
             Presence::Object(_) => {
-                let next = rec.next;
-                if next.0 == version_limit(edition) {
+                if versions_spent(rec) {
                     return Check::Refused(Refusal::VersionsSpent);
                 }
-                check_number(rec, head_size(edition))
+                Check::Passed
             }
         },
     }

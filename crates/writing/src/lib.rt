@@ -4,6 +4,7 @@ use segment::Version;
 
 pub mod causes;
 pub mod find;
+pub mod full;
 pub mod lay;
 pub mod start;
 

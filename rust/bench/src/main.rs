@@ -15,6 +15,7 @@ mod positions;
 mod recoveries;
 mod report;
 mod store;
+mod switching;
 mod timing;
 mod tombstones;
 mod versions;
@@ -42,5 +43,6 @@ fn times() {
     positions::cases(&mut report);
     editions::cases(&mut report);
     conversion::cases(&mut report);
+    switching::cases(&mut report);
     report.worst_calls();
 }

@@ -27,6 +27,8 @@ pub enum Call {
     Recovery,
     /// The slot with the fewest present bytes.
     Fewest,
+    /// The switch to the second edition.
+    Switch,
     /// The next store told.
     NextStore,
     /// The two slots to join.
@@ -40,7 +42,7 @@ pub enum Call {
 }
 
 impl Call {
-    const ALL: [(Call, &'static str); 16] = [
+    const ALL: [(Call, &'static str); 17] = [
         (Call::Read, "read"),
         (Call::WriteStart, "start of a write"),
         (Call::ConditionalWriteStart, "start of a conditional write"),
@@ -52,6 +54,7 @@ impl Call {
         (Call::LastStepOfCleaning, "last step of a cleaning"),
         (Call::Recovery, "recovery"),
         (Call::Fewest, "slot with the fewest present bytes"),
+        (Call::Switch, "switch"),
         (Call::NextStore, "the next store told"),
         (Call::Join, "two slots to join"),
         (Call::ScanRead, "read by a scan"),

@@ -103,6 +103,14 @@ impl Store {
         }
     }
 
+    /// The store once it is switched.
+    pub fn switched(mut self) -> Store {
+        self.proved.switch().expect("nothing is pending");
+        let (reference, answer) = reference::switch(self.reference);
+        answer.expect("nothing is pending");
+        Store { reference, ..self }
+    }
+
     /// The version of a present key.
     pub fn version(&self, key: u32) -> reference::Version {
         let (area, index) = (&self.area, &self.index);

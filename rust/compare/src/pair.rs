@@ -364,6 +364,28 @@ impl Pair {
         found.map_or(Version::NONE, |found| found.version)
     }
 
+    /// Switches both. The records alone are changed.
+    pub fn switch(&mut self) -> Result<Result<(), u32>, Fault> {
+        let (mut record, before) = self.records.expect("an accepted recovery came before");
+        let answer = translate::proved(record.switch());
+        let (after, owed) = reference::switch(before);
+        self.tell(format_args!("switch: {answer:?}"));
+        same!("switch", answer, translate::reference(owed));
+        self.records = Some((record, after));
+        same!("index of a switch", self.proved.index[..], self.settled[..]);
+        self.same_memory()?;
+        Ok(answer)
+    }
+
+    /// The slots of the log that are of the first edition.
+    pub fn old_slots(&self) -> Vec<u32> {
+        let segment = |slot: u32| &self.area()[(slot * self.slot_bytes) as usize..];
+        let slots = self.record().map.slots();
+        slots
+            .filter(|&slot| Edition::of_segment(segment(slot)) == Some(Edition::FIRST))
+            .collect()
+    }
+
     /// The two slots to join, as both tell them.
     pub fn join(&self) -> Result<Result<(u32, u32), u32>, Fault> {
         let (record, owed) = self.records.expect("an accepted recovery came before");

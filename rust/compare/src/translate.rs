@@ -18,8 +18,9 @@ pub fn tables(tables: reference::Tables) -> kurdavel::Tables {
     }
 }
 
-/// The word of a record that has the edition.
+/// The words of a record that have the edition and the switch.
 pub const EDITION: usize = 10;
+pub const SWITCHED: usize = 11;
 
 /// A format by the proved store, told any number for the edition. The wrapper's type has those alone that there are.
 pub fn format(slots: u32, slot_bytes: u32, edition: u32, area: &mut [u8]) -> Result<(), u32> {
@@ -50,6 +51,7 @@ pub fn record(record: reference::Record) -> Record {
         next: version(record.next),
         keys: record.keys,
         edition: Edition::First,
+        switched: record.switched,
         pending: pending(record.pending),
         present_bytes: record.present_bytes,
     };

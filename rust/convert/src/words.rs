@@ -34,7 +34,11 @@ fn count(number: u32, noun: &str) -> String {
 /// Why an image of so many bytes was not converted: the number, and what it means.
 pub fn refused(args: &Args, refusal: kurdavel::Refusal, bytes: usize) -> String {
     let number = refusal.number();
-    let meaning = Refusal::from_number(number).map_or("", Refusal::meaning);
+    let meaning = match refusal {
+        // Recovery takes such a log under a head of the second edition; a conversion never does.
+        kurdavel::Refusal::BothEditions => "Slots of the log are of both editions.",
+        _ => Refusal::from_number(number).map_or("", Refusal::meaning),
+    };
     let image = args.source.display();
     let told = format!("{image}: refused {number}: {meaning}");
     match refusal {

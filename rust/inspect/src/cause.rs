@@ -53,7 +53,7 @@ pub fn find(image: &Image) -> Cause {
         .or_else(|| bad_next(image, head, digest))
         .or_else(|| bad_map(image, head, digest))
         .or_else(|| missing_digest(image, head, digest))
-        .or_else(|| other_edition(image, head, digest))
+        .or_else(|| later_edition(image, head, digest))
         .unwrap_or_else(|| bad_log(image, head, digest.map))
 }
 
@@ -146,10 +146,11 @@ fn missing_digest(image: &Image, head: u32, digest: Digest) -> Option<Cause> {
     Some(digest_fault(what, spots))
 }
 
-fn other_edition(image: &Image, head: u32, digest: Digest) -> Option<Cause> {
+/// A slot of a later edition than the head's; under a head of the second, older slots are a store on its way over.
+fn later_edition(image: &Image, head: u32, digest: Digest) -> Option<Cause> {
     let own = digest.layout.edition;
     let edition = |slot: u32| layout_of(image.segment(slot)).edition;
-    let slot = digest.map.slots().find(|&slot| edition(slot) != own)?;
+    let slot = digest.map.slots().find(|&slot| edition(slot) > own)?;
     let what = format!(
         "slot {slot} of the log is of edition {}, and the head, slot {head}, of edition {}",
         edition(slot).0,

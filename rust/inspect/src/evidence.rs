@@ -6,7 +6,7 @@
 //! and so are all stores before them. Digests have a place of their own, so that nothing else is mistaken for one; where
 //! entries stand, any older bytes may read as a version by chance.
 
-use reference::edition::{MAP, NEXT, NUMBER, VERSION};
+use reference::edition::{FIRST, MAP, NEXT, NUMBER, VERSION};
 use reference::segment::Digest;
 use reference::{Record, Store};
 
@@ -144,12 +144,14 @@ fn tail_fields(plan: &Plan, known: Known) -> Vec<Field> {
         .collect()
 }
 
-/// A new head has the next digest number, and its next version may be above that of every older digest.
+/// A new head has the next digest number, and its next version may be above that of every older digest. The slot may have been of
+/// the first edition before, where entries stand behind a narrow next version: so no more than a narrow one is looked at, and
+/// none where versions are wide.
 fn new_head_fields(plan: &Plan, known: Known) -> Vec<Field> {
     let digest = known.record.digest.0.into();
     let number = field(&plan.bytes, NUMBER, MAP - NUMBER, digest);
-    let width = plan.layout.version_bytes;
-    let next = field(&plan.bytes, NEXT, width, known.head_next);
+    let next = field(&plan.bytes, NEXT, FIRST.version_bytes, known.head_next);
+    let next = next.filter(|_| known.record.next <= FIRST.spent());
     number.into_iter().chain(next).collect()
 }
 

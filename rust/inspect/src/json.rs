@@ -272,6 +272,7 @@ fn finding(recovered: &Recovered, finding: &Finding) -> Json {
 fn candidate(candidate: &Candidate) -> Json {
     let mut members = operation(candidate.operation);
     members.extend([
+        ("switched", Json::Bool(candidate.is_switched)),
         ("stores", optional(candidate.total)),
         ("certainly_done", number(candidate.range.least)),
         ("at_most_done", number(candidate.range.most)),

@@ -3,11 +3,11 @@
 //! The second implementation plans them. What the image cannot tell, such as the value of a write, is taken as it stands
 //! where the operation would store it.
 
-use reference::edition::{Layout, MAP, NEXT, VALUES};
+use reference::edition::{Layout, MAP, NEXT, SECOND, VALUES};
 use reference::segment::{read_entry, Digest, Entry as Read, Key as StoreKey};
 use reference::{
-    clean, delete, next_store, write, DigestNumber, Pending, Record, SlotMap, Started, Store,
-    Tables, Version,
+    clean, delete, next_store, write, DigestNumber, Edition, Pending, Record, SlotMap, Started,
+    Store, Tables, Version,
 };
 
 use crate::image::{layout_of, Image};
@@ -52,6 +52,8 @@ pub struct Plan {
     pub bytes: Vec<u8>,
     /// Kinds and sizes of its edition.
     pub layout: &'static Layout,
+    /// Whether it is one of a store that was switched: its new head is of another edition than the old one.
+    pub is_switched: bool,
 }
 
 /// Plans operations on a store, the bytes of which `standing` shows, perhaps some stores later.
@@ -59,7 +61,9 @@ pub struct Planner<'a> {
     image: &'a Image,
     index: &'a [u32],
     record: Record,
-    layout: &'static Layout,
+    /// Kinds and sizes of the head's edition, and of a new head's.
+    head: &'static Layout,
+    new_head: &'static Layout,
     standing: &'a [u8],
 }
 
@@ -71,23 +75,50 @@ impl<'a> Planner<'a> {
             keys: 0,
             ..recovered.record
         };
+        let head = layout_of(image.segment(record.head));
         Planner {
             image,
             index: &recovered.index,
             record,
-            layout: layout_of(image.segment(record.head)),
+            head,
+            new_head: head,
             standing,
         }
     }
 
-    /// The plans of every operation that the standing bytes may be a part of.
+    /// The plans of every operation that the standing bytes may be a part of. No byte tells whether a store with a head of the
+    /// first edition was switched, so that a new head of either edition is planned.
     pub fn all(&self) -> Vec<Plan> {
+        let mut plans = self.operations();
+        if let Some(switched) = self.switched() {
+            let planned = switched.operations().into_iter();
+            plans.extend(planned.filter(|plan| plan.site == Site::NewHead));
+        }
+        plans.extend(self.begun_new_head());
+        plans
+    }
+
+    /// A planner for the same store once it is switched, where that makes a difference.
+    fn switched(&self) -> Option<Planner<'a>> {
+        let record = Record {
+            switched: true,
+            ..self.record
+        };
+        (record.edition == Edition::FIRST).then_some(Planner {
+            record,
+            new_head: &SECOND,
+            ..*self
+        })
+    }
+
+    /// The plans of all writes, deletes and cleanings.
+    fn operations(&self) -> Vec<Plan> {
         let mut plans: Vec<Plan> = VALUES
             .into_iter()
             .filter_map(|bytes| self.write(bytes))
             .collect();
         plans.extend(self.deletes());
-        plans.extend(self.new_head());
+        plans.extend(self.cleaning());
         plans
     }
 
@@ -101,14 +132,16 @@ impl<'a> Planner<'a> {
             .flatten()
     }
 
-    /// Where an entry of this length would start.
-    fn room(&self, length: usize) -> Option<usize> {
+    /// Where an entry with so many value bytes would start, and the layout that it would have there.
+    fn room(&self, value_bytes: usize) -> Option<(usize, &'static Layout)> {
         let slot_bytes = self.record.slot_bytes as usize;
         let end = self.record.end as usize;
-        if end + length <= slot_bytes {
-            return Some(self.record.head as usize * slot_bytes + end);
+        let length = self.head.tombstone_bytes() + value_bytes;
+        if end + length <= slot_bytes && self.record.next <= self.head.last_version() {
+            return Some((self.record.head as usize * slot_bytes + end, self.head));
         }
-        Some(self.new_head_slot()? as usize * slot_bytes + self.layout.digest_bytes())
+        let start = self.new_head_slot()? as usize * slot_bytes;
+        Some((start + self.new_head.digest_bytes(), self.new_head))
     }
 
     fn start(&self, start: impl FnOnce(Record, &mut [u8]) -> Started) -> Option<(Record, Vec<u8>)> {
@@ -118,8 +151,8 @@ impl<'a> Planner<'a> {
     }
 
     fn write(&self, bytes: usize) -> Option<Plan> {
-        let leading = self.layout.tombstone_bytes();
-        let at = self.room(leading + bytes)?;
+        let (at, layout) = self.room(bytes)?;
+        let leading = layout.tombstone_bytes();
         let entry = self.standing.get(at..at + leading + bytes)?;
         let (key, value) = (standing_key(entry), &entry[leading..]);
         let (area, index) = (&self.image.area, self.index);
@@ -151,46 +184,45 @@ impl<'a> Planner<'a> {
         self.index.iter().filter_map(|&mark| {
             let at = mark.checked_sub(1)? as usize;
             let place = self.image.place(at);
-            match read_entry(self.layout, self.image.segment(place.slot), place.offset) {
+            let segment = self.image.segment(place.slot);
+            match read_entry(layout_of(segment), segment, place.offset) {
                 Read::Object(fields) => Some((place.slot, fields.key)),
                 _ => None,
             }
         })
     }
 
-    /// The cleaning whose map stands in the new head's slot, and any new head as far as that map allows it.
-    fn new_head(&self) -> Vec<Plan> {
-        let Some(slot) = self.new_head_slot() else {
-            return Vec::new();
-        };
+    /// The slot of the new head, the most that its map can have, and the map that stands there.
+    fn new_head_maps(&self) -> Option<(u32, SlotMap, SlotMap)> {
+        let slot = self.new_head_slot()?;
         let start = (slot * self.record.slot_bytes) as usize;
         let map_bytes = &self.standing[start + MAP..start + NEXT];
-        let map = self.record.map.with(slot);
         let stood = SlotMap(u32::from_le_bytes([
             map_bytes[0],
             map_bytes[1],
             map_bytes[2],
             map_bytes[3],
         ]));
-        let mut plans = Vec::new();
-        let victims = map.without(stood);
-        if stood.is_within(map) && stood.has(slot) {
-            plans.extend(self.clean(victims));
-        }
-        plans.push(self.any_new_head(slot, map, stood));
-        plans
+        Some((slot, self.record.map.with(slot), stood))
     }
 
-    fn clean(&self, victims: SlotMap) -> Option<Plan> {
+    /// The cleaning whose map stands in the new head's slot.
+    fn cleaning(&self) -> Option<Plan> {
+        let (slot, map, stood) = self.new_head_maps()?;
+        if !stood.is_within(map) || !stood.has(slot) {
+            return None;
+        }
+        let victims = map.without(stood);
         let (area, index) = (&self.image.area, self.index);
         let (record, work) =
             self.start(|record, work| clean(record, area, index, work, victims))?;
         Some(self.plan(Operation::Clean(victims), record, work))
     }
 
-    /// The stores that a new head begins with whatever its victims are: those of the number, and as many bytes of the
-    /// map as some choice of victims can have put there, but not the last.
-    fn any_new_head(&self, slot: u32, map: SlotMap, stood: SlotMap) -> Plan {
+    /// The stores that a new head begins with whatever its victims and its edition are: those of the number, and as many bytes
+    /// of the map as some choice of victims can have put there, but not the last.
+    fn begun_new_head(&self) -> Option<Plan> {
+        let (slot, map, stood) = self.new_head_maps()?;
         let own = SlotMap::EMPTY.with(slot);
         let possible = (0..4)
             .take_while(|byte| {
@@ -200,13 +232,13 @@ impl<'a> Planner<'a> {
             })
             .count();
         let digest = Digest {
-            layout: self.layout,
+            layout: self.new_head,
             number: DigestNumber(self.record.digest.0 + 1),
             map: stood,
             next: Version::NONE,
         };
         let known = MAP + possible.min(3);
-        let mut bytes = vec![0; self.layout.digest_bytes()];
+        let mut bytes = vec![0; self.new_head.digest_bytes()];
         digest.lay(&mut bytes);
         bytes.truncate(known);
         bytes[0] = 0;
@@ -215,14 +247,15 @@ impl<'a> Planner<'a> {
             place: start + offset,
             byte,
         });
-        Plan {
+        Some(Plan {
             operation: Operation::NewHead,
             site: Site::NewHead,
             stores: stores.collect(),
             is_whole: false,
             bytes,
-            layout: self.layout,
-        }
+            layout: self.new_head,
+            is_switched: false,
+        })
     }
 
     /// The plan of an operation that was started.
@@ -236,13 +269,18 @@ impl<'a> Planner<'a> {
         };
         let stores = stores(started, &self.image.area, &work);
         work.truncate(length as usize);
+        let layout = match site {
+            Site::Tail => self.head,
+            Site::NewHead => self.new_head,
+        };
         Plan {
             operation,
             site,
             stores,
             is_whole: true,
             bytes: work,
-            layout: self.layout,
+            layout,
+            is_switched: layout != self.head,
         }
     }
 }

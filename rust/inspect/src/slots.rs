@@ -40,7 +40,8 @@ pub struct Used {
     pub entries: usize,
     /// Bytes of objects that give present keys their values; none if nothing is decided.
     pub present: Option<usize>,
-    /// Bytes of the entries that a cleaning of this slot alone would keep.
+    /// Bytes of the entries that a cleaning of this slot alone would keep, as they would stand in the new head of a store that is
+    /// not switched; none if they do not fit it.
     pub kept: Option<usize>,
     /// Offset behind the last entry.
     pub end: usize,

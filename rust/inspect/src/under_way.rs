@@ -23,6 +23,8 @@ fn entry_stores(plan: &Plan) -> usize {
 pub struct Candidate {
     /// The operation.
     pub operation: Operation,
+    /// Whether it is one of a store that was switched.
+    pub is_switched: bool,
     /// How many stores it has; none if that is not known.
     pub total: Option<usize>,
     /// How many of them are done.
@@ -175,6 +177,7 @@ pub fn candidate(plan: &Plan, range: Range) -> Candidate {
     };
     Candidate {
         operation,
+        is_switched: plan.is_switched,
         total: plan.is_whole.then_some(plan.stores.len()),
         range,
     }
@@ -182,7 +185,8 @@ pub fn candidate(plan: &Plan, range: Range) -> Candidate {
 
 /// Adds a candidate, or widens the one of the same operation: keys that are not told are one.
 pub fn add(candidates: &mut Vec<Candidate>, new: Candidate) {
-    let same = |one: &&mut Candidate| one.operation == new.operation && one.total == new.total;
+    let name = |one: &Candidate| (one.operation, one.is_switched, one.total);
+    let same = |one: &&mut Candidate| name(one) == name(&new);
     match candidates.iter_mut().find(same) {
         Some(known) => {
             known.range.least = known.range.least.min(new.range.least);

@@ -58,7 +58,8 @@
 //! # Ok::<(), kurdavel::Refusal>(())
 //! ```
 //!
-//! [`convert`] rewrites a whole area in the other edition, for a bench that keeps images of both.
+//! [`convert`] rewrites a whole area in the other edition, for a bench that keeps images of both. A store in service is
+//! carried over from the first edition to the second by [`switch`](Record::switch) and the cleanings after it.
 //!
 //! # Rules of use
 //!

@@ -145,6 +145,8 @@ extern "C" {
 
     pub(crate) fn kurdavel_fewest(record: *const u32, record_words: usize, slot: *mut u32) -> u32;
 
+    pub(crate) fn kurdavel_switch(record: *mut u32, record_words: usize) -> u32;
+
     pub(crate) fn kurdavel_join(
         record: *const u32,
         record_words: usize,

@@ -134,8 +134,11 @@ pub struct Fields {
     pub next: Version,
     /// How many keys have entries in the log, deleted ones too.
     pub keys: u32,
-    /// The edition of the log.
+    /// The edition of the head.
     pub edition: Edition,
+    /// Whether a head of the first edition was switched since the recovery. A new head is of the second edition if it was, or if
+    /// the head is.
+    pub switched: bool,
     /// The operation under way.
     pub pending: Pending,
     /// For each slot the bytes of its present objects: whole entries that give present keys their values. 0 outside the
@@ -181,17 +184,18 @@ impl Record {
     ///     next: Version(1),
     ///     keys: 0,
     ///     edition: Edition::First,
+    ///     switched: true,
     ///     pending: Pending::Append { length: 19, left: 20 },
     ///     present_bytes: [0; 32],
     /// };
     /// let record = Record::of(fields);
-    /// assert_eq!(record.words()[..12], [4, 256, 16, 0, 13, 1, 1, 1, 0, 0, 1, 0]);
+    /// assert_eq!(record.words()[..12], [4, 256, 16, 0, 13, 1, 1, 1, 0, 0, 1, 1]);
     /// assert_eq!(record.words()[12..17], [1, 0, 0, 19, 20]);
     /// assert_eq!(record.fields(), Some(fields));
     /// ```
     pub fn of(fields: Fields) -> Record {
         let mut words = [0; WORDS];
-        words[..11].copy_from_slice(&[
+        words[..PENDING].copy_from_slice(&[
             fields.slots,
             fields.slot_bytes,
             fields.cells,
@@ -203,6 +207,7 @@ impl Record {
             (fields.next.0 >> 32) as u32,
             fields.keys,
             fields.edition.number(),
+            fields.switched.into(),
         ]);
         words[PENDING..PRESENT].copy_from_slice(&fields.pending.words());
         words[PRESENT..].copy_from_slice(&fields.present_bytes);
@@ -211,7 +216,7 @@ impl Record {
 
     /// What the record says; nothing if its words are no record's.
     pub fn fields(&self) -> Option<Fields> {
-        let [slots, slot_bytes, cells, head, end, digest, map, _, _, keys, edition, 0, pending @ ..] =
+        let [slots, slot_bytes, cells, head, end, digest, map, _, _, keys, edition, switched @ (0 | 1), pending @ ..] =
             self.words
         else {
             return None;
@@ -228,6 +233,7 @@ impl Record {
             next: self.next(),
             keys,
             edition: Edition::from_number(edition)?,
+            switched: switched == 1,
             pending: Pending::of_words(pending.try_into().ok()?)?,
             present_bytes: present.try_into().ok()?,
         })

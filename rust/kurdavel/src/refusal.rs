@@ -22,7 +22,8 @@ pub enum Refusal {
     ValueLength = 7,
     /// The key was never written, or is deleted.
     Absent = 8,
-    /// No version of the store's edition is left to give. Only a format helps; reads and cleanings go on.
+    /// No version is left to give. A [`switch`](crate::Record::switch) helps in the first edition, and only a format in the
+    /// second; reads and cleanings go on.
     VersionsSpent = 9,
     /// A new head is needed, and no digest number is left for it. Only a format helps; reads go on, and so do writes and
     /// deletes whose entry fits the head.
@@ -31,12 +32,14 @@ pub enum Refusal {
     /// slots, or recover with a larger index.
     KeysFull = 11,
     /// There is no room in the head for what is to be written, and a new head would take the last free slot. Cleaning the
-    /// two slots that [`join`](crate::Record::join) tells makes room; in a store full of live objects a delete helps,
-    /// which is never refused so.
+    /// two slots that [`join`](crate::Record::join) tells makes room; in a store full of live objects a delete helps. A
+    /// delete is refused so only where the store is being carried over to the second edition and what the slot of its
+    /// object keeps is too long there.
     NoRoom = 12,
     /// The victims are none, or not all in the log.
     BadVictims = 13,
-    /// What is kept of the victims is too long for one slot. Name fewer; a single one is never too much.
+    /// What is kept of the victims is too long for one slot. Name fewer; a single one is never too much, unless it is of the
+    /// first edition and the new head of the second.
     KeptTooLong = 14,
     /// The order is not each slot once.
     BadOrder = 15,
@@ -66,7 +69,7 @@ pub enum Refusal {
     BadFloat = 26,
     /// The count is above 67,108,864, or no float holds it.
     BadCount = 27,
-    /// Slots of the log are of both editions.
+    /// A slot of the log is of the second edition and the head of the first; or, at a conversion, slots are of both.
     BothEditions = 28,
     /// A slot's entries, rewritten in the second edition, are too long for it. Cleaning the slot before helps where some of
     /// them no longer count.

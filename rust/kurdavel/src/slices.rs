@@ -332,7 +332,25 @@ pub fn fewest(record: &[u32], slot: &mut u32) -> u32 {
     unsafe { kurdavel_fewest(record.as_ptr(), record.len(), slot) }
 }
 
-/// Tells the lowest two slots of the log whose kept entries fit one slot; both are 0 where the call is refused.
+/// Switches a store to the second edition. The record is kept in place: the call updates its words.
+///
+/// ```
+/// use kurdavel::{slices, WORDS};
+/// let (mut area, mut index, mut words) = ([0; 1024], [0; 16], [0; WORDS]);
+/// assert_eq!(slices::switch(&mut words), 4);
+/// slices::format(4, 256, 1, &mut area);
+/// slices::recover(4, 256, &[0, 1, 2, 3], &area, &mut index, &mut words);
+/// assert_eq!(slices::switch(&mut words[..WORDS - 1]), 4);
+/// assert_eq!(slices::switch(&mut words), 0);
+/// assert_eq!(words[10..12], [1, 1]);
+/// ```
+#[inline]
+pub fn switch(record: &mut [u32]) -> u32 {
+    // SAFETY: the pointer and length are those of one exclusive slice.
+    unsafe { kurdavel_switch(record.as_mut_ptr(), record.len()) }
+}
+
+/// Tells the lowest two slots of the log whose kept entries fit one new head; both are 0 where the call is refused.
 #[inline]
 pub fn join(record: &[u32], area: &[u8], index: &[u32], first: &mut u32, second: &mut u32) -> u32 {
     // SAFETY: each pointer and length are those of one slice; `first` and `second` are exclusive.

@@ -10,8 +10,8 @@ use crate::values::{Edition, Key, SlotMap, Tables, Version};
 pub struct Found {
     /// The version.
     pub version: Version,
-    /// The kind of the object, for a value of 8, 24, 56 or 120 bytes: 1, 2, 3 or 7 in the first edition, and 9, 10, 11 or
-    /// 12 in the second.
+    /// The kind of the object, for a value of 8, 24, 56 or 120 bytes: 1, 2, 3 or 7 in a slot of the first edition, and 9, 10,
+    /// 11 or 12 in one of the second.
     pub kind: u8,
 }
 
@@ -63,7 +63,7 @@ pub fn format(
 
 /// Reads the log of an area and makes its record and index.
 ///
-/// `order` names each slot once; every order gives the same store. A pending operation is dropped. The index stays as it
+/// `order` names each slot once; every order gives the same store. A pending operation is dropped, and so is a switch. The index stays as it
 /// was if the call is refused, but is all 0 after [`TooManyKeys`](Refusal::TooManyKeys): no record may then be used
 /// before a recovery is accepted (see the rules of use in the [crate's documentation](crate)).
 ///
@@ -85,7 +85,7 @@ pub fn format(
 ///     assert_eq!(recover(4, 256, &[0, 1, 2, 3], &damaged, &mut [0; 16]), Err(cause));
 /// }
 ///
-/// // Slot 1 is in the map, and begins with a digest of the other edition.
+/// // Slot 1 is in the map, and begins with a digest of the second edition, of which the head is not.
 /// let mut mixed = area;
 /// (mixed[5], mixed[256]) = (0b11, 8);
 /// let answer = recover(4, 256, &[0, 1, 2, 3], &mixed, &mut [0; 16]);
@@ -350,9 +350,10 @@ impl Record {
 
     /// Starts to delete a key. Answers how many stores are to come.
     ///
-    /// A delete is never refused for want of room. Where a write would be refused with [`NoRoom`](Refusal::NoRoom), the slot
-    /// that holds the key's value is cleaned without it, in as many stores as a cleaning takes; the last step tells the
-    /// delete's version.
+    /// A delete needs no room. Where a write would be refused with [`NoRoom`](Refusal::NoRoom), the slot that holds the key's
+    /// value is cleaned without it, in as many stores as a cleaning takes; the last step tells the delete's version. Only
+    /// where that slot is of the first edition and the new head of the second (see [`switch`](Record::switch)) may what is
+    /// kept be too long, and the delete be refused with [`NoRoom`](Refusal::NoRoom) too.
     ///
     /// ```
     /// # let mut area = [0; 1024];
@@ -538,8 +539,62 @@ impl Record {
         Refusal::unless_accepted(answer).map(|()| slot)
     }
 
+    /// Switches a store of the first edition to the second: from then on every new head is of the second, and what it takes
+    /// over is rewritten with it, until the last old slot is cleaned. The record alone is changed, and not even that where
+    /// the store is switched or its head is of the second edition. A [`recover`] forgets the switch as long as the head is
+    /// of the first edition.
+    ///
+    /// An entry takes 4 bytes more in the second edition, so that what a full old slot keeps may not fit a new head. Whether
+    /// the way over is open can be found out before: if a cleaning of each slot alone is accepted in a switched store, and
+    /// there are digest numbers for all of them, then the cleanings are accepted one after the other. A start changes neither
+    /// area nor index, and a recovery forgets start and switch.
+    ///
+    /// ```
+    /// # let mut area = [0; 1024];
+    /// # kurdavel::format(4, 256, kurdavel::Edition::First, &mut area)?;
+    /// # let (mut index, mut work) = ([0; 16], [0; 256]);
+    /// # let mut record = kurdavel::recover(4, 256, &[0, 1, 2, 3], &area, &mut index)?;
+    /// use kurdavel::{recover, Edition, Key, Refusal, SlotMap, Tables};
+    /// let key = Key { table: 1, key: 2 };
+    /// let other = Key { table: 1, key: 3 };
+    /// for key in [key, other] {
+    ///     record.write(&area, &index, &mut work, Tables::ALL, key, &[7; 120])?;
+    ///     while record.left() > 0 {
+    ///         record.step(&mut area, &mut index, &work)?;
+    ///     }
+    /// }
+    ///
+    /// // Each slot would fit a new head.
+    /// let old: Vec<u32> = (0..4).filter(|&slot| record.map().has(slot)).collect();
+    /// for &slot in &old {
+    ///     record.switch()?;
+    ///     record.clean(&area, &index, &mut work, SlotMap::of(slot))?;
+    ///     assert_eq!(record.switch(), Err(Refusal::Busy));
+    ///     record = recover(4, 256, &[0, 1, 2, 3], &area, &mut index)?;
+    ///     assert!(!record.fields().expect("a record").switched);
+    /// }
+    ///
+    /// // So they are carried over.
+    /// record.switch()?;
+    /// for &slot in &old {
+    ///     record.clean(&area, &index, &mut work, SlotMap::of(slot))?;
+    ///     while record.left() > 0 {
+    ///         record.step(&mut area, &mut index, &work)?;
+    ///     }
+    /// }
+    /// let record = recover(4, 256, &[0, 1, 2, 3], &area, &mut index)?;
+    /// assert_eq!(record.fields().expect("a record").edition, Edition::Second);
+    /// assert_eq!(record.read(&area, &index, Tables::ALL, key)?.kind, 12);
+    /// assert_eq!(record.read_value(&area, &index, Tables::ALL, key), &[7; 120]);
+    /// # Ok::<(), Refusal>(())
+    /// ```
+    #[inline]
+    pub fn switch(&mut self) -> Result<(), Refusal> {
+        Refusal::unless_accepted(slices::switch(&mut self.words))
+    }
+
     /// The lowest two slots of the log, the first of them deciding first, that can be cleaned together: what they hold that
-    /// still counts fits one slot. After a write was refused with [`NoRoom`](Refusal::NoRoom), cleaning them makes room
+    /// still counts fits one new head. After a write was refused with [`NoRoom`](Refusal::NoRoom), cleaning them makes room
     /// for it.
     ///
     /// ```

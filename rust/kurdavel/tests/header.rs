@@ -87,6 +87,7 @@ fn fields_of_a_record() {
         next: Version(8 | 9 << 32),
         keys: 10,
         edition: Edition::Second,
+        switched: true,
         pending: Pending::Forget {
             slot: 11,
             victims: SlotMap(12),
@@ -109,8 +110,9 @@ fn fields_of_a_record() {
         "NEXT_HIGH",
         "KEYS",
         "EDITION",
+        "SWITCHED",
     ];
-    assert_eq!(order.map(word), [1, 2, 3, 4, 5, 6, 7, 8, 9, 10, 2]);
+    assert_eq!(order.map(word), [1, 2, 3, 4, 5, 6, 7, 8, 9, 10, 2, 1]);
     let pending = ["PENDING", "SLOT", "VICTIMS", "LENGTH", "LEFT"];
     assert_eq!(pending.map(word), [4, 11, 12, 13, 14]);
     let present = &record.words()[named["PRESENT"] as usize..];
@@ -126,16 +128,16 @@ fn blank() -> [u32; WORDS] {
     words
 }
 
-/// A word in reserve is 0, or the words are no record's.
+/// The switch is 0 or 1, or the words are no record's.
 #[test]
-fn words_in_reserve() {
-    let reserve = numbers("KURDAVEL_WORD_RESERVE_");
-    assert_eq!(reserve.len(), 1);
-    for &word in reserve.values() {
+fn switches_of_a_record() {
+    let word = numbers("KURDAVEL_WORD_")["SWITCHED"] as usize;
+    for number in [0, 1, 2, 256, 257, u32::MAX] {
         let mut words = blank();
-        assert!(Record::from_words(words).fields().is_some());
-        words[word as usize] = 1;
-        assert_eq!(Record::from_words(words).fields(), None);
+        words[word] = number;
+        let said = Record::from_words(words).fields();
+        let switched = said.map(|fields| u32::from(fields.switched));
+        assert_eq!(switched, (number < 2).then_some(number));
     }
 }
 

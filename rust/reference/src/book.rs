@@ -30,6 +30,8 @@ pub enum Event {
     Step(bool),
     /// A read, which changes nothing.
     Read(Key),
+    /// A switch, and whether it was accepted; it changes nothing that the book has.
+    Switch(bool),
     /// A recovery, and whether it was accepted.
     Recovery(bool),
     /// The power failed.
@@ -86,6 +88,7 @@ impl Book {
             Event::Start(_, None)
             | Event::Step(false)
             | Event::Read(_)
+            | Event::Switch(_)
             | Event::Recovery(false) => None,
         }
     }

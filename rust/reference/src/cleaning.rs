@@ -1,18 +1,31 @@
 //! The start of a cleaning (01, "Operations, store by store"), and of a delete that is done as
-//! one (02, R-4).
+//! one (02, R-4). What is kept is rewritten in the edition of the new head (02, R-13).
 
 use crate::counters::Version;
-use crate::edition::{by_edition, Fixed, FIRST};
+use crate::edition::{by_editions, Fixed, FIRST};
 use crate::index::{search, Search};
 use crate::layout::MAX_AREA_BYTES;
-use crate::log::walk;
 use crate::operations::{hand_back, lay_digest, Started};
 use crate::record::{Pending, Record};
 use crate::refusal::Refusal;
 use crate::rules::{AsWritten, Rules};
-use crate::segment::{lay_entry, Fields, Key};
+use crate::segment::{lay_entry, lay_rewritten, Key};
 use crate::slot_map::SlotMap;
 use crate::step::new_head_stores;
+
+/// Walks slots of the log; damage is a byte that no log holds.
+macro_rules! walk_slots {
+    ($record:expr, $area:expr, $slots:expr, $visit:expr) => {
+        $crate::log::walk!(
+            $area,
+            $record.slot_bytes,
+            $slots.slots(),
+            Refusal::Record,
+            $visit
+        )
+    };
+}
+pub(crate) use walk_slots;
 
 /// Starts to move what is needed of the victims to a new head.
 pub fn clean(
@@ -34,34 +47,34 @@ pub fn clean_by<R: Rules>(
     victims: SlotMap,
 ) -> Started {
     let pending =
-        by_edition!(record.edition, E => start::<E, R>(&record, area, index, work, victims));
+        by_editions!(record, H, E => start::<H, E, R>(&record, area, index, work, victims));
     hand_back(record, pending)
 }
 
 /// The checks in 01's order, then digest and kept entries into the work buffer.
-fn start<E: Fixed, R: Rules>(
+fn start<H: Fixed, E: Fixed, R: Rules>(
     record: &Record,
     area: &[u8],
     index: &[u32],
     work: &mut [u8],
     victims: SlotMap,
 ) -> Result<Pending, Refusal> {
-    record.check::<E>(area, index)?;
+    record.check::<H>(area, index)?;
     record.check_idle(work)?;
     if victims == SlotMap::EMPTY || !victims.is_within(record.map) {
         return Err(Refusal::Victims);
     }
-    let mut choice = Choice::of_victims::<E>(record, area, index, victims, None)?;
+    let mut choice = Choice::of_victims::<E, R>(record, area, index, victims, None)?;
     choice.keep_needed_tombstones::<E>(record, area, index, victims)?;
     if R::TOMBSTONE_GOES_WITH_NEWEST_OBJECT {
         choice.drop_by_newest_object::<E>(record, area, victims)?;
     }
-    if E::LAYOUT.digest_bytes() + choice.bytes > record.slot_bytes as usize {
+    if !choice.fits::<E>(record) {
         return Err(Refusal::KeptLength);
     }
     let slot = record.new_head_slot()?;
     lay_digest::<E>(record, work, slot, victims, record.next);
-    let length = copy_kept::<E>(record, area, work, victims, &choice)?;
+    let length = copy_kept::<E, R>(record, area, work, victims, &choice)?;
     Ok(Pending::Clean {
         slot,
         length,
@@ -71,8 +84,9 @@ fn start<E: Fixed, R: Rules>(
 }
 
 /// Starts a delete of the key whose live object stands at a place, as a cleaning of the slot
-/// that holds it. Nothing is longer in the new head than it was in the victim, so it fits. A
-/// place outside the log is one that no index leads to.
+/// that holds it. Refuses with 12 and 10. Nothing is longer in a new head of the victim's edition
+/// than it was in the victim, so 12 comes up only where the victim is rewritten. A place outside
+/// the log is one that no index leads to.
 pub(crate) fn forget<E: Fixed, R: Rules>(
     record: &Record,
     area: &[u8],
@@ -80,20 +94,29 @@ pub(crate) fn forget<E: Fixed, R: Rules>(
     work: &mut [u8],
     live: usize,
 ) -> Result<Pending, Refusal> {
-    let slot = record.new_head_slot()?;
+    if R::DIGESTS_SPENT_BEFORE_ROOM {
+        record.new_head_slot()?;
+    }
     let victim = live as u32 / record.slot_bytes;
     if !record.map.has(victim) {
         return Err(Refusal::Record);
     }
     let victims = SlotMap::EMPTY.with(victim);
-    let mut choice = Choice::of_victims::<E>(record, area, index, victims, Some(live))?;
+    let mut choice = Choice::of_victims::<E, R>(record, area, index, victims, Some(live))?;
     if !R::NO_TOMBSTONE_OF_FORGOTTEN {
         choice.keep_needed_tombstones::<E>(record, area, index, victims)?;
     }
+    if !choice.fits::<E>(record) {
+        return Err(match R::FULL_DELETE_MEETS_14 {
+            true => Refusal::KeptLength,
+            false => Refusal::SlotsFull,
+        });
+    }
+    let slot = record.new_head_slot()?;
     let taken = u64::from(!R::FORGOTTEN_VERSION_NOT_IN_DIGEST);
     let next = Version(record.next.0 + taken);
     lay_digest::<E>(record, work, slot, victims, next);
-    let length = copy_kept::<E>(record, area, work, victims, &choice)?;
+    let length = copy_kept::<E, R>(record, area, work, victims, &choice)?;
     Ok(Pending::Forget {
         slot,
         length,
@@ -104,7 +127,7 @@ pub(crate) fn forget<E: Fixed, R: Rules>(
 
 /// Copies the kept entries by ascending slot and offset behind the digest, a new tombstone in
 /// the place of the object to be forgotten; gives the length of all.
-fn copy_kept<E: Fixed>(
+fn copy_kept<E: Fixed, R: Rules>(
     record: &Record,
     area: &[u8],
     work: &mut [u8],
@@ -113,7 +136,7 @@ fn copy_kept<E: Fixed>(
 ) -> Result<u32, Refusal> {
     let layout = &E::LAYOUT;
     let mut at = layout.digest_bytes();
-    walk_slots::<E>(record, area, victims, |place, fields| {
+    walk_slots!(record, area, victims, |place, fields| {
         if !choice.kept.has(place) {
             return Ok(());
         }
@@ -122,26 +145,16 @@ fn copy_kept<E: Fixed>(
             let (tombstone, out) = (layout.tombstone, &mut work[at..end]);
             lay_entry(layout, out, tombstone, fields.key, record.next, &[]);
             at = end;
-        } else {
+        } else if R::OLD_BYTES_COPIED || fields.value == layout.tombstone_bytes() {
             let end = at + fields.length;
             work[at..end].copy_from_slice(&area[place..place + fields.length]);
             at = end;
+        } else {
+            at += lay_rewritten(layout, &mut work[at..], fields, &area[place..]);
         }
         Ok(())
     })?;
     Ok(at as u32)
-}
-
-/// Walks slots of the log; damage is a byte that no log holds.
-#[inline]
-pub(crate) fn walk_slots<E: Fixed>(
-    record: &Record,
-    area: &[u8],
-    slots: SlotMap,
-    visit: impl FnMut(usize, Fields) -> Result<(), Refusal>,
-) -> Result<(), Refusal> {
-    let damage = Refusal::Record;
-    walk::<E>(area, record.slot_bytes, slots.slots(), damage, visit)
 }
 
 /// The place of the newest entry of a key that has one.
@@ -157,7 +170,7 @@ pub(crate) fn newest(area: &[u8], index: &[u32], key: Key) -> Result<usize, Refu
 struct Choice {
     /// Entries to keep.
     kept: EntrySet,
-    /// Their length together.
+    /// Their length together in the new head.
     bytes: usize,
     /// The object in whose place a tombstone stands, if it is needed.
     forgotten: Option<usize>,
@@ -170,7 +183,7 @@ struct Choice {
 impl Choice {
     /// Keeps the objects that are their key's newest entry and notes such tombstones. The object
     /// to be forgotten counts as one.
-    fn of_victims<E: Fixed>(
+    fn of_victims<E: Fixed, R: Rules>(
         record: &Record,
         area: &[u8],
         index: &[u32],
@@ -184,7 +197,7 @@ impl Choice {
             tombstones: EntrySet::new(),
             tombstone_keys: KeyFilter::new(),
         };
-        walk_slots::<E>(record, area, victims, |place, fields| {
+        walk_slots!(record, area, victims, |place, fields| {
             if newest(area, index, fields.key)? != place {
                 return Ok(());
             }
@@ -193,7 +206,10 @@ impl Choice {
                 choice.tombstone_keys.add(fields.key);
             } else {
                 choice.kept.add(place);
-                choice.bytes += fields.length;
+                choice.bytes += match R::OLD_BYTES_COPIED {
+                    true => fields.length,
+                    false => fields.bytes_in(&E::LAYOUT),
+                };
             }
             Ok(())
         })?;
@@ -211,7 +227,7 @@ impl Choice {
         if self.tombstone_keys.is_empty() {
             return Ok(());
         }
-        walk_slots::<E>(record, area, record.map.without(victims), |_, fields| {
+        walk_slots!(record, area, record.map.without(victims), |_, fields| {
             if fields.is_tombstone() || !self.tombstone_keys.may_have(fields.key) {
                 return Ok(());
             }
@@ -224,6 +240,11 @@ impl Choice {
         })
     }
 
+    /// Whether the kept entries fit behind the digest of a new head.
+    fn fits<E: Fixed>(&self, record: &Record) -> bool {
+        E::LAYOUT.digest_bytes() + self.bytes <= record.slot_bytes as usize
+    }
+
     /// A rule that 01 calls wrong, for tests: drops the kept tombstones of keys whose
     /// newest object is in a victim.
     fn drop_by_newest_object<E: Fixed>(
@@ -232,12 +253,12 @@ impl Choice {
         area: &[u8],
         victims: SlotMap,
     ) -> Result<(), Refusal> {
-        walk_slots::<E>(record, area, victims, |place, tombstone| {
+        walk_slots!(record, area, victims, |place, tombstone| {
             if !tombstone.is_tombstone() || !self.kept.has(place) {
                 return Ok(());
             }
             let mut newest = (Version(0), 0);
-            walk_slots::<E>(record, area, record.map, |place, fields| {
+            walk_slots!(record, area, record.map, |place, fields| {
                 if !fields.is_tombstone() && fields.key == tombstone.key {
                     newest = newest.max((fields.version, place));
                 }
@@ -245,7 +266,7 @@ impl Choice {
             })?;
             if victims.has(newest.1 as u32 / record.slot_bytes) {
                 self.kept.remove(place);
-                self.bytes -= tombstone.length;
+                self.bytes -= tombstone.bytes_in(&E::LAYOUT);
             }
             Ok(())
         })

@@ -1,19 +1,21 @@
 //! A whole area from one edition to the other (02, R-12).
 
+use std::marker::PhantomData;
+
 use crate::edition::{by_edition, Fixed};
 use crate::layout::{geometry_holds, segment, MOST_SLOTS};
-use crate::log::walk_segment;
-use crate::recovery::{checked_head, survey};
+use crate::log::walk_entries;
+use crate::recovery::{check_one_edition, checked_head, survey, Visit};
 use crate::refusal::Refusal;
 use crate::rules::AsWritten;
-use crate::segment::{lay_entry, Digest, Fields};
+use crate::segment::{lay_rewritten, Digest, Fields};
 use crate::slot_map::SlotMap;
 
 /// Rewrites the log of an area in the other edition, slot by slot, into a second area of the same
 /// geometry, which is 0 everywhere else.
 ///
 /// Refuses with 1, also for the length of the second area, and with 16, 17, 24, 25, 28, 18 and 19 as
-/// recovery does; then with 29 and 30. The second area stays as it was where the call is refused.
+/// recovery does, but with 28 for any log of both editions; then with 29 and 30. The second area stays as it was where the call is refused.
 pub fn convert(
     slots: u32,
     slot_bytes: u32,
@@ -24,6 +26,7 @@ pub fn convert(
         return Err(Refusal::Geometry);
     }
     let (head, digest) = checked_head::<AsWritten>(slots, slot_bytes, source)?;
+    check_one_edition(slot_bytes, source, digest)?;
     by_edition!(digest.layout.edition, E => {
         check_rewritten::<E>(slot_bytes, source, head, digest.map)?;
         rewrite::<E>(slot_bytes, source, target, digest.map)
@@ -38,11 +41,17 @@ fn check_rewritten<E: Fixed>(
     map: SlotMap,
 ) -> Result<(), Refusal> {
     let other = &E::Other::LAYOUT;
-    let mut lengths = [other.digest_bytes(); MOST_SLOTS];
-    let survey = survey::<E>(slot_bytes, area, map.slots(), head, |place, fields| {
-        lengths[place / slot_bytes as usize] += rewritten_bytes::<E>(fields);
-    })?;
-    if lengths.iter().any(|&length| length > slot_bytes as usize) {
+    let mut lengths = Lengths::<E> {
+        slot_bytes: slot_bytes as usize,
+        bytes: [other.digest_bytes(); MOST_SLOTS],
+        edition: PhantomData,
+    };
+    let survey = survey(slot_bytes, area, map.slots(), head, &mut lengths)?;
+    if lengths
+        .bytes
+        .iter()
+        .any(|&length| length > slot_bytes as usize)
+    {
         return Err(Refusal::SlotTooLong);
     }
     // Each digest keeps its own next version, so that those of older slots have to be narrow as well.
@@ -54,10 +63,18 @@ fn check_rewritten<E: Fixed>(
     Ok(())
 }
 
-/// Bytes of an entry in the other edition.
-#[inline]
-fn rewritten_bytes<E: Fixed>(fields: Fields) -> usize {
-    E::Other::LAYOUT.tombstone_bytes() + fields.length - fields.value
+/// The bytes that the slots of a log of an edition take in the other one.
+struct Lengths<E> {
+    slot_bytes: usize,
+    bytes: [usize; MOST_SLOTS],
+    edition: PhantomData<E>,
+}
+
+impl<E: Fixed> Visit for Lengths<E> {
+    #[inline(always)]
+    fn visit(&mut self, place: usize, fields: &Fields) {
+        self.bytes[place / self.slot_bytes] += fields.bytes_in(&E::Other::LAYOUT);
+    }
 }
 
 /// Lays down the log in the other edition, which has room for it and its versions.
@@ -87,19 +104,8 @@ fn rewrite_segment<E: Fixed>(segment: &[u8], target: &mut [u8]) -> Result<(), Re
         ..digest
     }
     .lay(target);
-    walk_segment::<E>(segment, Refusal::Entry, |offset, fields| {
-        let value = &segment[offset + fields.value..offset + fields.length];
-        let kind = other.object_kind(value.len()).unwrap_or(other.tombstone);
-        let start = end;
-        end += rewritten_bytes::<E>(fields);
-        lay_entry(
-            other,
-            &mut target[start..end],
-            kind,
-            fields.key,
-            fields.version,
-            value,
-        );
+    walk_entries::<E>(segment, 0, Refusal::Entry, |offset, fields| {
+        end += lay_rewritten(other, &mut target[end..], fields, &segment[offset..]);
         Ok(())
     })?;
     Ok(())

@@ -1,7 +1,8 @@
 //! The two editions of the log (01, "Bytes of a segment"; 02, R-3 and R-11): their kinds, sizes and
 //! limits, as data.
 //!
-//! No kind but 0 is of both editions, so that the digest's tells that of a segment.
+//! No kind but 0 is of both editions, so that the digest's tells that of a segment, and an entry's
+//! own that of an entry.
 
 use crate::counters::Version;
 
@@ -127,7 +128,61 @@ macro_rules! by_edition {
 }
 pub(crate) use by_edition;
 
+/// Compiles a call for the editions of the head and of the next new head, and runs the one of this
+/// record. Once a store is switched, every new head is of the second edition.
+macro_rules! by_editions {
+    ($record:expr, $head:ident, $new:ident => $call:expr) => {
+        if $record.edition == $crate::edition::Edition::SECOND {
+            type $head = $crate::edition::Second;
+            type $new = $crate::edition::Second;
+            $call
+        } else if $record.switched {
+            type $head = $crate::edition::First;
+            type $new = $crate::edition::Second;
+            $call
+        } else {
+            type $head = $crate::edition::First;
+            type $new = $crate::edition::First;
+            $call
+        }
+    };
+}
+pub(crate) use by_editions;
+
+/// The total length of an object of each kind, of either edition; 0 where no object has the kind.
+const OBJECT_BYTES: [u8; 256] = {
+    let mut bytes = [0; 256];
+    let mut number = 0;
+    while number < VALUES.len() {
+        let mut edition = 0;
+        while edition < Edition::ALL.len() {
+            let layout = [&FIRST, &SECOND][edition];
+            let length = layout.tombstone_bytes() + VALUES[number];
+            bytes[layout.objects[number] as usize] = length as u8;
+            edition += 1;
+        }
+        number += 1;
+    }
+    bytes
+};
+
+/// The total length of an object of this kind in the edition that has it; 0 if neither has.
+#[inline]
+pub(crate) fn object_bytes(kind: u8) -> u32 {
+    u32::from(OBJECT_BYTES[kind as usize])
+}
+
 impl Layout {
+    /// The layout of the edition that has entries of this kind; the first one's if neither has.
+    #[inline]
+    pub fn of_entry(kind: u8) -> &'static Layout {
+        if SECOND.entry_bytes(kind).is_some() {
+            &SECOND
+        } else {
+            &FIRST
+        }
+    }
+
     /// Length of a digest, and so the offset of the first entry.
     #[inline]
     pub const fn digest_bytes(&self) -> usize {
@@ -138,6 +193,13 @@ impl Layout {
     #[inline]
     pub const fn tombstone_bytes(&self) -> usize {
         VERSION + self.version_bytes
+    }
+
+    /// The kind of an entry with a value of this length, which an entry may have; a tombstone has
+    /// none.
+    #[inline]
+    pub(crate) fn entry_kind(&self, value_bytes: usize) -> u8 {
+        self.object_kind(value_bytes).unwrap_or(self.tombstone)
     }
 
     /// The kind of an object with a value of this length, if there is one.

@@ -3,9 +3,9 @@
 use std::collections::{HashMap, HashSet};
 
 use crate::counters::Version;
-use crate::edition::{by_edition, Edition, Fixed, VERSION};
+use crate::edition::{Layout, VERSION};
 use crate::layout::{geometry_holds, index_holds, segment};
-use crate::log::walk_segment;
+use crate::log::{walk, walk_segment};
 use crate::refusal::Refusal;
 use crate::segment::{read_entry, Entry, Fields, Key};
 use crate::slot_map::SlotMap;
@@ -63,19 +63,18 @@ pub(crate) fn search(area: &[u8], index: &[u32], key: Key) -> Search {
     Search::Broken
 }
 
-/// Place and fields of the object that a search came to; none if the key is absent. Refuses
-/// with 4 what no log leads to.
+/// Place and fields of the object that a search came to, of either edition; none if the key is
+/// absent. Refuses with 4 what no log leads to.
 #[inline]
-pub(crate) fn object_at<E: Fixed>(
-    area: &[u8],
-    found: Search,
-) -> Result<Option<(usize, Fields)>, Refusal> {
+pub(crate) fn object_at(area: &[u8], found: Search) -> Result<Option<(usize, Fields)>, Refusal> {
     match found {
-        Search::Found { place, .. } => match read_entry(&E::LAYOUT, area, place) {
-            Entry::Object(fields) => Ok(Some((place, fields))),
-            Entry::Tombstone(_) => Ok(None),
-            Entry::End | Entry::Damage => Err(Refusal::Record),
-        },
+        Search::Found { place, .. } => {
+            match read_entry(Layout::of_entry(area[place]), area, place) {
+                Entry::Object(fields) => Ok(Some((place, fields))),
+                Entry::Tombstone(_) => Ok(None),
+                Entry::End | Entry::Damage => Err(Refusal::Record),
+            }
+        }
         Search::Free { .. } => Ok(None),
         Search::Broken => Err(Refusal::Record),
     }
@@ -113,7 +112,7 @@ pub(crate) fn point_to(
 /// Fills the index from the entries of the given slots and counts the keys; tells `entered` of
 /// each entry, by its slot and place. Refuses with 20 if there are more than M - 1 keys; the
 /// index is then all 0.
-pub(crate) fn rebuild<E: Fixed>(
+pub(crate) fn rebuild(
     area: &[u8],
     slot_bytes: u32,
     slots: impl Iterator<Item = u32>,
@@ -126,9 +125,9 @@ pub(crate) fn rebuild<E: Fixed>(
     let mut slots = slots;
     let built = slots.try_for_each(|slot| {
         let start = (slot * slot_bytes) as usize;
-        walk_segment::<E>(segment(area, slot_bytes, slot), damage, |offset, fields| {
-            let place = start + offset;
-            let met = enter::<E>(area, index, place, fields, keys)?;
+        let bytes = segment(area, slot_bytes, slot);
+        walk_segment!(bytes, start, damage, |place, fields| {
+            let met = enter(area, index, place, fields, keys)?;
             keys += u32::from(met == Entered::New);
             entered(slot, place, met);
             Ok(())
@@ -143,7 +142,7 @@ pub(crate) fn rebuild<E: Fixed>(
 
 /// Brings one entry into an index that holds `keys` keys.
 #[inline]
-fn enter<E: Fixed>(
+fn enter(
     area: &[u8],
     index: &mut [u32],
     place: usize,
@@ -152,8 +151,9 @@ fn enter<E: Fixed>(
 ) -> Result<Entered, Refusal> {
     match search(area, index, fields.key) {
         Search::Found { cell, place: known } => {
+            let layout = Layout::of_entry(area[known]);
             let version = area.get(known + VERSION..);
-            let version = version.and_then(|bytes| E::LAYOUT.version_in(bytes));
+            let version = version.and_then(|bytes| layout.version_in(bytes));
             if version >= Some(fields.version) {
                 return Ok(Entered::Older);
             }
@@ -205,19 +205,19 @@ fn newest_entries(
     area: &[u8],
 ) -> Option<HashMap<Key, (Version, usize)>> {
     let mut newest: HashMap<Key, (Version, usize)> = HashMap::new();
-    for slot in map.slots() {
-        let bytes = segment(area, slot_bytes, slot);
-        let start = (slot * slot_bytes) as usize;
-        let visit = |offset, fields: Fields| {
-            let entry = (fields.version, start + offset);
+    let walked = walk!(
+        area,
+        slot_bytes,
+        map.slots(),
+        Refusal::Entry,
+        |place, fields| {
+            let entry = (fields.version, place);
             let best = newest.entry(fields.key).or_insert(entry);
             *best = entry.max(*best);
             Ok(())
-        };
-        let edition = Edition::of_segment(bytes)?;
-        by_edition!(edition, E => walk_segment::<E>(bytes, Refusal::Entry, visit)).ok()?;
-    }
-    Some(newest)
+        }
+    );
+    walked.ok().map(|()| newest)
 }
 
 /// Whether the search for a key comes to a cell before it meets a 0.

@@ -1,10 +1,10 @@
-//! Which two slots to join (02, R-7).
+//! Which two slots to join (02, R-7), by the sizes that entries have in the new head (02, R-13).
 //!
 //! What a cleaning of two slots keeps is what each of them keeps alone, less the tombstones of one
 //! whose only objects elsewhere are in the other. So two walks of the log are enough for all pairs.
 
 use crate::cleaning::{newest, walk_slots, SHORTEST};
-use crate::edition::{by_edition, Fixed};
+use crate::edition::{by_editions, object_bytes, Fixed};
 use crate::layout::{MAX_AREA_BYTES, MOST_SLOTS};
 use crate::record::Record;
 use crate::refusal::Refusal;
@@ -13,11 +13,15 @@ use crate::slot_map::SlotMap;
 /// The lowest two slots of the log, the first of them deciding first, whose kept entries fit one
 /// new head when exactly these two are cleaned. Refuses with 4, 5 and 23.
 pub fn join(record: &Record, area: &[u8], index: &[u32]) -> Result<(u32, u32), Refusal> {
-    by_edition!(record.edition, E => pair::<E>(record, area, index))
+    by_editions!(record, H, E => pair::<H, E>(record, area, index))
 }
 
-fn pair<E: Fixed>(record: &Record, area: &[u8], index: &[u32]) -> Result<(u32, u32), Refusal> {
-    record.check::<E>(area, index)?;
+fn pair<H: Fixed, E: Fixed>(
+    record: &Record,
+    area: &[u8],
+    index: &[u32],
+) -> Result<(u32, u32), Refusal> {
+    record.check::<H>(area, index)?;
     record.check_none_pending()?;
     let kept = Kept::of::<E>(record, area, index)?;
     let digest = E::LAYOUT.digest_bytes() as u32;
@@ -99,14 +103,14 @@ impl Kept {
         tombstones: &mut Tombstones,
     ) -> Result<(), Refusal> {
         let own = (slot * record.slot_bytes) as usize..((slot + 1) * record.slot_bytes) as usize;
-        walk_slots::<E>(record, area, SlotMap::EMPTY.with(slot), |place, fields| {
+        walk_slots!(record, area, SlotMap::EMPTY.with(slot), |place, fields| {
             if fields.is_tombstone() {
                 return Ok(());
             }
             let newest = newest(area, index, fields.key)?;
             if newest == place {
-                self.alone[slot as usize] += fields.length as u32;
-            } else if area[newest] == E::LAYOUT.tombstone && !own.contains(&newest) {
+                self.alone[slot as usize] += fields.bytes_in(&E::LAYOUT) as u32;
+            } else if object_bytes(area[newest]) == 0 && !own.contains(&newest) {
                 let known = &mut tombstones.0[newest / SHORTEST];
                 *known = known.and(slot);
             }
@@ -123,16 +127,17 @@ impl Kept {
         tombstones: &Tombstones,
     ) -> Result<(), Refusal> {
         let own = slot as usize;
-        walk_slots::<E>(record, area, SlotMap::EMPTY.with(slot), |place, fields| {
+        let length = E::LAYOUT.tombstone_bytes();
+        walk_slots!(record, area, SlotMap::EMPTY.with(slot), |place, fields| {
             if !fields.is_tombstone() {
                 return Ok(());
             }
             let elsewhere = tombstones.0[place / SHORTEST];
             if elsewhere != Elsewhere::NOWHERE {
-                self.alone[own] += fields.length as u32;
+                self.alone[own] += length as u32;
             }
             if let Some(other) = elsewhere.in_one() {
-                self.less[own.min(other)][own.max(other)] += fields.length as u16;
+                self.less[own.min(other)][own.max(other)] += length as u16;
             }
             Ok(())
         })

@@ -1,9 +1,12 @@
 //! Format, and the starts of write and delete (01, "Operations, store by store"; 02, R-1, R-2,
-//!
+//!
+//!
+//! Calls are compiled for two editions: `H`, that of the head, whose limits the record keeps and
+//! whose entries an append lays down, and `E`, that of the next new head.
 
 use crate::cleaning::forget;
 use crate::counters::{DigestNumber, Version};
-use crate::edition::{by_edition, Edition, Fixed, END};
+use crate::edition::{by_editions, Edition, Fixed, END};
 use crate::index::{object_at, search, Search};
 use crate::layout::geometry_holds;
 use crate::record::{Pending, Record};
@@ -94,9 +97,9 @@ pub fn write_by<R: Rules>(
     expected: Option<Version>,
     value: &[u8],
 ) -> Started {
-    let pending = by_edition!(record.edition, E => {
-        check_write::<E>(&record, area, index, work, tables, key, expected, value)
-            .map(|(kind, room)| lay::<E, R>(&record, work, room, kind, key, value))
+    let pending = by_editions!(record, H, E => {
+        check_write::<H, E, R>(&record, area, index, work, tables, key, expected, value)
+            .map(|room| lay::<H, E, R>(&record, work, room, key, value))
     });
     hand_back(record, pending)
 }
@@ -122,15 +125,15 @@ pub fn delete_by<R: Rules>(
     tables: Tables,
     key: Key,
 ) -> Started {
-    let pending = by_edition!(
-        record.edition,
-        E => start_delete::<E, R>(&record, area, index, work, tables, key)
+    let pending = by_editions!(
+        record,
+        H, E => start_delete::<H, E, R>(&record, area, index, work, tables, key)
     );
     hand_back(record, pending)
 }
 
 /// A delete with its checks. Where a write would meet 12, the slot with the live object is cleaned.
-fn start_delete<E: Fixed, R: Rules>(
+fn start_delete<H: Fixed, E: Fixed, R: Rules>(
     record: &Record,
     area: &[u8],
     index: &[u32],
@@ -138,10 +141,9 @@ fn start_delete<E: Fixed, R: Rules>(
     tables: Tables,
     key: Key,
 ) -> Result<Pending, Refusal> {
-    let live = check_delete::<E>(record, area, index, work, tables, key)?;
-    let layout = &E::LAYOUT;
-    match find_room(record, layout.tombstone_bytes()) {
-        Ok(room) => Ok(lay::<E, R>(record, work, room, layout.tombstone, key, &[])),
+    let live = check_delete::<H, E>(record, area, index, work, tables, key)?;
+    match find_room::<H, R>(record, 0) {
+        Ok(room) => Ok(lay::<H, E, R>(record, work, room, key, &[])),
         Err(Refusal::SlotsFull) => forget::<E, R>(record, area, index, work, live),
         Err(refusal) => Err(refusal),
     }
@@ -163,10 +165,10 @@ enum Room {
     NewHead(u32),
 }
 
-/// The checks of a write in 02's order; gives the kind of the object and its room. The key is
-/// looked for only where the answer depends on it.
+/// The checks of a write in 02's order; gives the object's room. The key is looked for only where
+/// the answer depends on it.
 #[allow(clippy::too_many_arguments)]
-fn check_write<E: Fixed>(
+fn check_write<H: Fixed, E: Fixed, R: Rules>(
     record: &Record,
     area: &[u8],
     index: &[u32],
@@ -175,14 +177,15 @@ fn check_write<E: Fixed>(
     key: Key,
     expected: Option<Version>,
     value: &[u8],
-) -> Result<(u8, Room), Refusal> {
-    record.check_start_on::<E>(area, index, work, tables, key)?;
-    let kind = E::LAYOUT.object_kind(value.len());
-    let kind = kind.ok_or(Refusal::ValueLength)?;
+) -> Result<Room, Refusal> {
+    record.check_start_on::<H>(area, index, work, tables, key)?;
+    if E::LAYOUT.object_kind(value.len()).is_none() {
+        return Err(Refusal::ValueLength);
+    }
     let full = record.keys == record.cells - 1;
     let found = (full || expected.is_some()).then(|| search(area, index, key));
     if let (Some(expected), Some(found)) = (expected, found) {
-        check_expected::<E>(area, found, expected)?;
+        check_expected(area, found, expected)?;
     }
     if record.has_no_version::<E>() {
         return Err(Refusal::VersionsSpent);
@@ -192,13 +195,12 @@ fn check_write<E: Fixed>(
         Some(Search::Broken) => return Err(Refusal::Record),
         _ => {}
     }
-    let room = find_room(record, E::LAYOUT.tombstone_bytes() + value.len())?;
-    Ok((kind, room))
+    find_room::<H, R>(record, value.len())
 }
 
 /// Refuses with 21 unless the key that was looked for has the expected version.
-fn check_expected<E: Fixed>(area: &[u8], found: Search, expected: Version) -> Result<(), Refusal> {
-    let object = object_at::<E>(area, found)?;
+fn check_expected(area: &[u8], found: Search, expected: Version) -> Result<(), Refusal> {
+    let object = object_at(area, found)?;
     let version = object.map_or(Version::NONE, |(_, fields)| fields.version);
     if version == expected {
         Ok(())
@@ -207,8 +209,8 @@ fn check_expected<E: Fixed>(area: &[u8], found: Search, expected: Version) -> Re
     }
 }
 
-/// The checks of a delete in 02's order, but for 10; gives the place of the live object.
-fn check_delete<E: Fixed>(
+/// The checks of a delete in 02's order, but for 12 and 10; gives the place of the live object.
+fn check_delete<H: Fixed, E: Fixed>(
     record: &Record,
     area: &[u8],
     index: &[u32],
@@ -216,8 +218,8 @@ fn check_delete<E: Fixed>(
     tables: Tables,
     key: Key,
 ) -> Result<usize, Refusal> {
-    record.check_start_on::<E>(area, index, work, tables, key)?;
-    let object = object_at::<E>(area, search(area, index, key))?;
+    record.check_start_on::<H>(area, index, work, tables, key)?;
+    let object = object_at(area, search(area, index, key))?;
     let (live, _) = object.ok_or(Refusal::Absent)?;
     if record.has_no_version::<E>() {
         return Err(Refusal::VersionsSpent);
@@ -225,10 +227,13 @@ fn check_delete<E: Fixed>(
     Ok(live)
 }
 
-/// Room for an entry: the head if it fits there, else a new head, which 12 and 10 may
-/// refuse. A new head for an entry leaves a slot free for cleaning.
-fn find_room(record: &Record, length: usize) -> Result<Room, Refusal> {
-    if record.end as usize + length <= record.slot_bytes as usize {
+/// Room for an entry with so many value bytes: the head if it fits there and the head's edition has
+/// its version, else a new head, which 12 and 10 may refuse. A new head for an entry leaves a slot
+/// free for cleaning.
+fn find_room<H: Fixed, R: Rules>(record: &Record, value_bytes: usize) -> Result<Room, Refusal> {
+    let end = record.end as usize + H::LAYOUT.tombstone_bytes() + value_bytes;
+    let has_version = R::APPEND_PAST_VERSIONS || !record.has_no_version::<H>();
+    if end <= record.slot_bytes as usize && has_version {
         return Ok(Room::Head);
     }
     if record.free_slots() < 2 {
@@ -238,33 +243,47 @@ fn find_room(record: &Record, length: usize) -> Result<Room, Refusal> {
 }
 
 /// Fills the work buffer with the entry, after a digest if there is a new head.
-fn lay<E: Fixed, R: Rules>(
+fn lay<H: Fixed, E: Fixed, R: Rules>(
     record: &Record,
     work: &mut [u8],
     room: Room,
-    kind: u8,
     key: Key,
     value: &[u8],
 ) -> Pending {
-    let start = match room {
-        Room::Head => 0,
-        Room::NewHead(slot) => lay_digest::<E>(record, work, slot, SlotMap::EMPTY, record.next),
-    };
-    let layout = &E::LAYOUT;
+    match room {
+        Room::Head => {
+            let length = lay_next::<H>(record, work, 0, key, value);
+            Pending::Append {
+                length,
+                left: append_stores::<R>(record, length),
+            }
+        }
+        Room::NewHead(slot) => {
+            let start = lay_digest::<E>(record, work, slot, SlotMap::EMPTY, record.next);
+            let length = lay_next::<E>(record, work, start, key, value);
+            Pending::NewHead {
+                slot,
+                length,
+                left: new_head_stores::<R>(record, length),
+            }
+        }
+    }
+}
+
+/// Lays an entry with the next version into the work buffer and gives where it ends.
+#[inline]
+fn lay_next<L: Fixed>(
+    record: &Record,
+    work: &mut [u8],
+    start: usize,
+    key: Key,
+    value: &[u8],
+) -> u32 {
+    let layout = &L::LAYOUT;
+    let kind = layout.entry_kind(value.len());
     let end = start + layout.tombstone_bytes() + value.len();
     lay_entry(layout, &mut work[start..end], kind, key, record.next, value);
-    let length = end as u32;
-    match room {
-        Room::Head => Pending::Append {
-            length,
-            left: append_stores::<R>(record, length),
-        },
-        Room::NewHead(slot) => Pending::NewHead {
-            slot,
-            length,
-            left: new_head_stores::<R>(record, length),
-        },
-    }
+    end as u32
 }
 
 /// Lays the digest of a new head with this next version into the work buffer and gives its

@@ -1,6 +1,7 @@
-//! How full each slot is with objects that count (02, R-5).
+//! How full each slot is with objects that count (02, R-5). An object counts as many bytes as it
+//! takes in its own slot.
 
-use crate::edition::Fixed;
+use crate::edition::{object_bytes, Layout};
 use crate::layout::{segment, MOST_SLOTS};
 use crate::log::walk_segment;
 use crate::record::Record;
@@ -42,29 +43,27 @@ impl<'a> Counts<'a> {
 
     /// An entry of a slot, of this kind, has become its key's newest: an object counts.
     #[inline]
-    pub(crate) fn add<E: Fixed, R: Rules>(&mut self, slot: u32, kind: u8) {
+    pub(crate) fn add<R: Rules>(&mut self, slot: u32, kind: u8) {
         let length = match R::TOMBSTONES_COUNTED {
-            true => E::LAYOUT.entry_bytes(kind),
-            false => E::LAYOUT.object_bytes(kind),
+            true => Layout::of_entry(kind).entry_bytes(kind).unwrap_or(0) as u32,
+            false => object_bytes(kind),
         };
-        let length = length.unwrap_or(0) as u32;
         self.change(slot, |bytes| bytes.saturating_add(length));
     }
 
     /// The entry at a place of the area is no longer its key's newest: it counts no more.
     #[inline]
-    pub(crate) fn displace<E: Fixed, R: Rules>(&mut self, area: &[u8], place: usize) {
+    pub(crate) fn displace<R: Rules>(&mut self, area: &[u8], place: usize) {
         if R::OVERWRITTEN_STILL_COUNTED {
             return;
         }
-        if let Some(length) = E::LAYOUT.object_bytes(area[place]) {
-            let slot = place as u32 / self.slot_bytes;
-            self.change(slot, |bytes| bytes.saturating_sub(length as u32));
-        }
+        let slot = place as u32 / self.slot_bytes;
+        let length = object_bytes(area[place]);
+        self.change(slot, |bytes| bytes.saturating_sub(length));
     }
 
     /// Victims have left the log, and of the objects in the new head all count.
-    pub(crate) fn clean<E: Fixed>(
+    pub(crate) fn clean(
         &mut self,
         area: &[u8],
         victims: SlotMap,
@@ -75,7 +74,7 @@ impl<'a> Counts<'a> {
         }
         let mut kept = 0;
         let bytes = segment(area, self.slot_bytes, head);
-        walk_segment::<E>(bytes, Refusal::Record, |_, fields| {
+        walk_segment!(bytes, 0, Refusal::Record, |_, fields| {
             if !fields.is_tombstone() {
                 kept += fields.length as u32;
             }

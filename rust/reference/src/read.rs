@@ -59,5 +59,5 @@ fn find<E: Fixed>(
 ) -> Result<(usize, Fields), Refusal> {
     record.check::<E>(area, index)?;
     tables.check(key)?;
-    object_at::<E>(area, search(area, index, key))?.ok_or(Refusal::Absent)
+    object_at(area, search(area, index, key))?.ok_or(Refusal::Absent)
 }

@@ -1,8 +1,8 @@
 //! The store record and when it is out of range (01, "Memory the caller lends" and
-//! "Refused calls"; 02, R-5 and R-11).
+//! "Refused calls"; 02, R-5, R-11 and R-13).
 
 use crate::counters::{DigestNumber, Version};
-use crate::edition::{by_edition, Edition, Fixed};
+use crate::edition::{by_edition, Edition, Fixed, FIRST};
 use crate::layout::{geometry_holds, CELLS, MOST_SLOTS, SLOTS, SLOT_BYTES};
 use crate::refusal::Refusal;
 use crate::segment::Key;
@@ -102,6 +102,9 @@ pub struct Record {
     pub map: SlotMap,
     /// The edition of the head.
     pub edition: Edition,
+    /// Whether the store was switched since its recovery. A head of the second edition needs no
+    /// switch: a new head is of the second edition after it too.
+    pub switched: bool,
     /// The version that the next write or delete takes.
     pub next: Version,
     /// How many keys have an entry in the log, tombstones included.
@@ -137,7 +140,7 @@ impl Record {
             && layout.has_next(self.next)
             && self.keys < self.cells
             && self.is_pending_in_range()
-            && self.are_present_bytes_in_range::<E>()
+            && self.are_present_bytes_in_range()
     }
 
     #[inline]
@@ -146,10 +149,11 @@ impl Record {
         matches!(self.pending, Pending::None) || (left != 0 && left <= self.slot_bytes + 1)
     }
 
-    /// No slot has room for more than S less a digest, and all 32 numbers are held to it.
+    /// No slot has room for more than S less the shorter digest, which a slot may have under a head
+    /// of either edition; all 32 numbers are held to it.
     #[inline]
-    fn are_present_bytes_in_range<E: Fixed>(&self) -> bool {
-        let most = self.slot_bytes - E::LAYOUT.digest_bytes() as u32;
+    fn are_present_bytes_in_range(&self) -> bool {
+        let most = self.slot_bytes - FIRST.digest_bytes() as u32;
         self.present_bytes
             .iter()
             .fold(true, |all, &bytes| all & (bytes <= most))
@@ -217,8 +221,8 @@ impl Record {
         Ok(())
     }
 
-    /// The next version once the one that is next now is given; 4 if none is left to give, which no
-    /// start overlooks.
+    /// The next version once the one that is next now is given to an entry of this edition; 4 if
+    /// none is left to give, which no start overlooks.
     #[inline]
     pub(crate) fn next_after<E: Fixed>(&self) -> Result<Version, Refusal> {
         if self.has_no_version::<E>() {
@@ -227,7 +231,7 @@ impl Record {
         Ok(Version(self.next.0 + 1))
     }
 
-    /// Whether no version is left to give.
+    /// Whether no version is left to give to an entry of this edition.
     #[inline]
     pub(crate) fn has_no_version<E: Fixed>(&self) -> bool {
         self.next == E::LAYOUT.spent()

@@ -1,7 +1,8 @@
-//! Recovery (01, "Operations, store by store" and causes 1, 2 and 15 to 20; 02, R-5, R-8 and R-11).
+//! Recovery (01, "Operations, store by store" and causes 1, 2 and 15 to 20; 02, R-5, R-8, R-11 and
+//!
 
 use crate::counters::{DigestNumber, Version};
-use crate::edition::{by_edition, Edition, Fixed};
+use crate::edition::Edition;
 use crate::index::{rebuild, Entered};
 use crate::layout::{geometry_holds, index_holds, segment, MOST_SLOTS};
 use crate::log::walk_segment;
@@ -45,12 +46,11 @@ pub fn recover_by<R: Rules>(
         return Err(Refusal::Order);
     }
     let head = checked_head::<R>(slots, slot_bytes, area)?;
-    let edition = head.1.layout.edition;
-    by_edition!(edition, E => read_log::<E, R>(slots, slot_bytes, area, index, order, head))
+    read_log::<R>(slots, slot_bytes, area, index, order, head)
 }
 
 /// The record, and the index filled, once the head is known.
-fn read_log<E: Fixed, R: Rules>(
+fn read_log<R: Rules>(
     slots: u32,
     slot_bytes: u32,
     area: &[u8],
@@ -62,14 +62,14 @@ fn read_log<E: Fixed, R: Rules>(
         .iter()
         .map(|&slot| u32::from(slot))
         .filter(|&slot| digest.map.has(slot));
-    let survey = survey::<E>(slot_bytes, area, log.clone(), head, |_, _| {})?;
+    let survey = survey(slot_bytes, area, log.clone(), head, &mut ())?;
     if R::EDITIONS_AFTER_ENTRIES {
-        check_editions(slot_bytes, area, digest)?;
+        check_editions::<R>(slot_bytes, area, digest)?;
     }
     let mut present_bytes = [0; MOST_SLOTS];
     let mut present = Counts::new(slot_bytes, &mut present_bytes);
-    let count = |slot, place, entered| count_newest::<E>(&mut present, area, slot, place, entered);
-    let keys = rebuild::<E>(area, slot_bytes, log, index, Refusal::Entry, count)?;
+    let count = |slot, place, entered| count_newest(&mut present, area, slot, place, entered);
+    let keys = rebuild(area, slot_bytes, log, index, Refusal::Entry, count)?;
     Ok(Record {
         slots,
         slot_bytes,
@@ -79,6 +79,7 @@ fn read_log<E: Fixed, R: Rules>(
         digest: digest.number,
         map: digest.map,
         edition: digest.layout.edition,
+        switched: R::SWITCH_KEPT_OVER_RECOVERY,
         next: next_version::<R>(digest, survey.highest),
         keys,
         pending: Pending::None,
@@ -88,19 +89,13 @@ fn read_log<E: Fixed, R: Rules>(
 
 /// Counts an entry that is its key's newest so far, and no longer the one that it displaces.
 #[inline]
-fn count_newest<E: Fixed>(
-    present: &mut Counts,
-    area: &[u8],
-    slot: u32,
-    place: usize,
-    entered: Entered,
-) {
+fn count_newest(present: &mut Counts, area: &[u8], slot: u32, place: usize, entered: Entered) {
     if entered == Entered::Older {
         return;
     }
-    present.add::<E, AsWritten>(slot, area[place]);
+    present.add::<AsWritten>(slot, area[place]);
     if let Entered::Displacing(older) = entered {
-        present.displace::<E, AsWritten>(area, older);
+        present.displace::<AsWritten>(area, older);
     }
 }
 
@@ -152,7 +147,7 @@ fn find_head<R: Rules>(slots: u32, slot_bytes: u32, area: &[u8]) -> Result<(u32,
 }
 
 /// Refuses what cannot be the head's digest: with 17 for its next version, 24 for its map, 25 for
-/// a slot in the map that has no digest and 28 for one of the other edition.
+/// a slot in the map that has no digest and 28 for one whose edition the head does not allow.
 fn check_head<R: Rules>(
     slots: u32,
     slot_bytes: u32,
@@ -173,7 +168,7 @@ fn check_head<R: Rules>(
     if R::EDITIONS_AFTER_ENTRIES {
         return Ok(());
     }
-    check_editions(slot_bytes, area, digest)
+    check_editions::<R>(slot_bytes, area, digest)
 }
 
 fn check_next(digest: Digest) -> Result<(), Refusal> {
@@ -205,8 +200,23 @@ fn check_log(slots: u32, slot_bytes: u32, area: &[u8], map: SlotMap) -> Result<(
     }
 }
 
-/// Every slot of the log is of the head's edition.
-fn check_editions(slot_bytes: u32, area: &[u8], head: Digest) -> Result<(), Refusal> {
+/// Every slot of the log is of the head's edition or an older one: a store on its way over has slots
+/// of both.
+fn check_editions<R: Rules>(slot_bytes: u32, area: &[u8], head: Digest) -> Result<(), Refusal> {
+    if R::EDITIONS_NEVER_MIXED {
+        return check_one_edition(slot_bytes, area, head);
+    }
+    let edition = |slot| Edition::of_segment(segment(area, slot_bytes, slot));
+    let own = Some(head.layout.edition);
+    if head.map.slots().all(|slot| edition(slot) <= own) {
+        Ok(())
+    } else {
+        Err(Refusal::Editions)
+    }
+}
+
+/// Every slot of the log is of the head's edition, or 28.
+pub(crate) fn check_one_edition(slot_bytes: u32, area: &[u8], head: Digest) -> Result<(), Refusal> {
     let edition = |slot| Edition::of_segment(segment(area, slot_bytes, slot));
     let own = Some(head.layout.edition);
     if head.map.slots().all(|slot| edition(slot) == own) {
@@ -224,32 +234,44 @@ pub(crate) struct Survey {
     pub(crate) highest: Version,
 }
 
+/// What is done with each entry of a survey besides: a trait, so that it can be put in line for both
+/// editions.
+pub(crate) trait Visit {
+    fn visit(&mut self, place: usize, fields: &Fields);
+}
+
+/// Nothing.
+impl Visit for () {
+    #[inline(always)]
+    fn visit(&mut self, _: usize, _: &Fields) {}
+}
+
 /// Reads the whole log once and visits each entry with its place: refuses damage with 18 and then
 /// shared versions with 19.
-pub(crate) fn survey<E: Fixed>(
+pub(crate) fn survey(
     slot_bytes: u32,
     area: &[u8],
     log: impl Iterator<Item = u32> + Clone,
     head: u32,
-    mut visit: impl FnMut(usize, Fields),
+    visitor: &mut impl Visit,
 ) -> Result<Survey, Refusal> {
-    let mut end = E::LAYOUT.digest_bytes();
+    let mut end = 0;
     let mut highest = Version(0);
     let mut filter = Filter::new();
     for slot in log.clone() {
         let bytes = segment(area, slot_bytes, slot);
         let start = (slot * slot_bytes) as usize;
-        let stop = walk_segment::<E>(bytes, Refusal::Entry, |offset, fields| {
+        let stop = walk_segment!(bytes, start, Refusal::Entry, |place, fields| {
             highest = highest.max(fields.version);
             filter.note(fields.version);
-            visit(start + offset, fields);
+            visitor.visit(place, &fields);
             Ok(())
         })?;
         if slot == head {
             end = stop;
         }
     }
-    filter.check::<E>(area, slot_bytes, log)?;
+    filter.check(area, slot_bytes, log)?;
     Ok(Survey {
         end: end as u32,
         highest,

@@ -53,7 +53,8 @@ pub enum Refusal {
     DigestsSpent = 10,
     /// The key is new, and the index has no cell left for it.
     KeysFull = 11,
-    /// There is no room in the head for a write, and a new head would take the last free slot.
+    /// There is no room in the head for an entry, and a new head would take the last free slot;
+    /// for a delete, what its slot keeps does not fit a new head either.
     SlotsFull = 12,
     /// The victims are none, or not all in the log.
     Victims = 13,
@@ -86,7 +87,8 @@ pub enum Refusal {
     Float = 26,
     /// The count is above the highest position, or no float holds it.
     Count = 27,
-    /// Slots of the log are of both editions.
+    /// A slot of the log is of the second edition and the head of the first, or slots of a log to
+    /// be converted are of both.
     Editions = 28,
     /// The entries of a slot, rewritten in the other edition, do not fit it.
     SlotTooLong = 29,

@@ -36,6 +36,20 @@ pub trait Rules {
     const SHARED_WITHIN_AN_EDITION: bool = false;
     /// Log slots of both editions are tested for only once all entries are read.
     const EDITIONS_AFTER_ENTRIES: bool = false;
+    /// Log slots of both editions are refused under a head of the second edition too.
+    const EDITIONS_NEVER_MIXED: bool = false;
+    /// A store counts as switched after every recovery.
+    const SWITCH_KEPT_OVER_RECOVERY: bool = false;
+    /// A switch is accepted while an operation is under way.
+    const SWITCH_WHILE_PENDING: bool = false;
+    /// An entry fits a head of the first edition by its length alone, whatever its version is.
+    const APPEND_PAST_VERSIONS: bool = false;
+    /// A cleaning copies what it keeps as it stands, whatever edition the new head is of.
+    const OLD_BYTES_COPIED: bool = false;
+    /// A full delete whose rewritten victim does not fit is refused as a cleaning is.
+    const FULL_DELETE_MEETS_14: bool = false;
+    /// A full delete is refused for its digest number before its victim's entries are counted.
+    const DIGESTS_SPENT_BEFORE_ROOM: bool = false;
 }
 
 /// The rules of 01 and 02.

@@ -1,9 +1,8 @@
 //! A read that scans the log and uses no index (02, R-9).
 
-use crate::edition::{by_edition, Fixed};
 use crate::layout::geometry_holds;
 use crate::read::Found;
-use crate::recovery::{checked_head, survey};
+use crate::recovery::{checked_head, survey, Visit};
 use crate::refusal::Refusal;
 use crate::rules::AsWritten;
 use crate::segment::{Fields, Key};
@@ -53,10 +52,7 @@ fn scan(
         return Err(Refusal::Geometry);
     }
     let (head, digest) = checked_head::<AsWritten>(slots, slot_bytes, area)?;
-    let newest = by_edition!(
-        digest.layout.edition,
-        E => newest::<E>(slot_bytes, area, head, digest.map, key)
-    )?;
+    let newest = newest(slot_bytes, area, head, digest.map, key)?;
     tables.check(key)?;
     newest
         .filter(|(_, fields)| !fields.is_tombstone())
@@ -64,19 +60,31 @@ fn scan(
 }
 
 /// Place and fields of the key's newest entry, if it has one in the log; or 18 or 19.
-fn newest<E: Fixed>(
+fn newest(
     slot_bytes: u32,
     area: &[u8],
     head: u32,
     map: SlotMap,
     key: Key,
 ) -> Result<Option<(usize, Fields)>, Refusal> {
-    let mut newest: Option<(usize, Fields)> = None;
-    survey::<E>(slot_bytes, area, map.slots(), head, |place, fields| {
-        let newer = newest.is_none_or(|(_, known)| known.version < fields.version);
-        if fields.key == key && newer {
-            newest = Some((place, fields));
+    let mut newest = Newest { key, found: None };
+    survey(slot_bytes, area, map.slots(), head, &mut newest)?;
+    Ok(newest.found)
+}
+
+/// The newest entry of a key among those visited so far.
+struct Newest {
+    key: Key,
+    found: Option<(usize, Fields)>,
+}
+
+impl Visit for Newest {
+    #[inline(always)]
+    fn visit(&mut self, place: usize, fields: &Fields) {
+        let known = self.found;
+        let newer = known.is_none_or(|(_, known)| known.version < fields.version);
+        if fields.key == self.key && newer {
+            self.found = Some((place, *fields));
         }
-    })?;
-    Ok(newest)
+    }
 }

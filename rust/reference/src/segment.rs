@@ -63,6 +63,12 @@ impl Fields {
     pub fn is_tombstone(&self) -> bool {
         self.value == self.length
     }
+
+    /// Its length in this layout.
+    #[inline]
+    pub(crate) fn bytes_in(&self, layout: &Layout) -> usize {
+        layout.tombstone_bytes() + self.length - self.value
+    }
 }
 
 /// What the reader of an entry finds.
@@ -133,6 +139,29 @@ pub(crate) fn lay_entry(
     leading[1..VERSION].copy_from_slice(&key.stored());
     layout.lay_version(version, &mut leading[VERSION..]);
     rest.copy_from_slice(value);
+}
+
+/// Lays an entry with these fields, whose bytes begin `bytes`, into `out` in a layout that has its
+/// version, and gives its length there.
+#[inline(always)]
+pub(crate) fn lay_rewritten(
+    layout: &Layout,
+    out: &mut [u8],
+    fields: Fields,
+    bytes: &[u8],
+) -> usize {
+    let length = fields.bytes_in(layout);
+    let value = &bytes[fields.value..fields.length];
+    let kind = layout.entry_kind(value.len());
+    lay_entry(
+        layout,
+        &mut out[..length],
+        kind,
+        fields.key,
+        fields.version,
+        value,
+    );
+    length
 }
 
 /// The fields of a digest.

@@ -1,7 +1,8 @@
-//! One store of a pending operation (01, "Operations, store by store").
+//! One store of a pending operation (01, "Operations, store by store"; 02, R-13). The editions `H`
+//! and `E` are the head's and the new head's, as in [`crate::operations`].
 
 use crate::counters::{DigestNumber, Version};
-use crate::edition::{by_edition, Fixed, END, VERSION};
+use crate::edition::{by_editions, Fixed, END, VERSION};
 use crate::index::{point_to, rebuild, Entered};
 use crate::present::Counts;
 use crate::record::{Pending, Record};
@@ -79,8 +80,8 @@ fn closing_stores<R: Rules>(record: &Record, end: u32) -> u32 {
 /// The store that the next step makes, with the refusals of that step: 4, 3 and 6. No index is
 /// lent, so that its length plays no part.
 pub fn next_store(record: &Record, area: &[u8], work: &[u8]) -> Result<Store, Refusal> {
-    by_edition!(record.edition, E => {
-        record.check_area::<E>(area)?;
+    by_editions!(record, H, E => {
+        record.check_area::<H>(area)?;
         coming_store::<E, AsWritten>(record, area, work)
     })
 }
@@ -216,15 +217,15 @@ fn make_store<R: Rules>(
     work: &[u8],
     version: &mut Version,
 ) -> Result<u32, Refusal> {
-    by_edition!(record.edition, E => {
-        record.check::<E>(area, index)?;
+    by_editions!(record, H, E => {
+        record.check::<H>(area, index)?;
         let store = coming_store::<E, R>(record, area, work)?;
         area[store.place] = store.byte;
         let left = record.pending.left() - 1;
         if left > 0 {
             record.pending.set_left(left);
         } else {
-            (*record, *version) = finish::<E, R>(record, area, index, work)?;
+            (*record, *version) = finish::<H, E, R>(record, area, index, work)?;
         }
         Ok(left)
     })
@@ -232,7 +233,7 @@ fn make_store<R: Rules>(
 
 /// Record, index and version after the last store. Refuses with 4 only if record, index
 /// or work buffer are not what a start and its steps left.
-fn finish<E: Fixed, R: Rules>(
+fn finish<H: Fixed, E: Fixed, R: Rules>(
     record: &Record,
     area: &[u8],
     index: &mut [u32],
@@ -246,10 +247,10 @@ fn finish<E: Fixed, R: Rules>(
                 end: record.end + length,
                 ..*record
             };
-            finish_entry::<E, R>(grown, area, index, work, place as usize)
+            finish_entry::<H, R>(grown, area, index, work, place as usize)
         }
         Pending::NewHead { slot, length, .. } => {
-            let headed = new_head(record, slot, length, SlotMap::EMPTY)?;
+            let headed = new_head::<E>(record, slot, length, SlotMap::EMPTY)?;
             let digest = E::LAYOUT.digest_bytes();
             let place = (slot * record.slot_bytes) as usize + digest;
             finish_entry::<E, R>(headed, area, index, &work[digest..], place)
@@ -286,25 +287,19 @@ fn finish_cleaning<E: Fixed>(
     length: u32,
     victims: SlotMap,
 ) -> Result<Record, Refusal> {
-    let mut after = new_head(record, slot, length, victims)?;
+    let mut after = new_head::<E>(record, slot, length, victims)?;
     let (log, uncounted) = (after.map.slots(), |_, _, _| {});
-    after.keys = rebuild::<E>(
-        area,
-        after.slot_bytes,
-        log,
-        index,
-        Refusal::Record,
-        uncounted,
-    )
-    .map_err(|_| Refusal::Record)?;
-    Counts::of(&mut after).clean::<E>(area, victims, slot)?;
+    let damage = Refusal::Record;
+    after.keys = rebuild(area, after.slot_bytes, log, index, damage, uncounted)
+        .map_err(|_| Refusal::Record)?;
+    Counts::of(&mut after).clean(area, victims, slot)?;
     Ok(after)
 }
 
-/// Leads the index to the entry just stored and counts its key, its version and, for an object,
-/// its bytes in the head.
+/// Leads the index to the entry just stored, of an edition `L`, and counts its key, its version
+/// and, for an object, its bytes in the head.
 #[inline]
-fn finish_entry<E: Fixed, R: Rules>(
+fn finish_entry<L: Fixed, R: Rules>(
     record: Record,
     area: &[u8],
     index: &mut [u32],
@@ -312,7 +307,10 @@ fn finish_entry<E: Fixed, R: Rules>(
     place: usize,
 ) -> Result<(Record, Version), Refusal> {
     let leading: &[u8; VERSION] = entry.first_chunk().ok_or(Refusal::Record)?;
-    let next = record.next_after::<E>()?;
+    let next = match R::APPEND_PAST_VERSIONS {
+        true => Version(record.next.0.wrapping_add(1)),
+        false => record.next_after::<L>()?,
+    };
     let entered = point_to(area, index, Key::of_entry(leading), place)?;
     let mut after = Record {
         next,
@@ -321,21 +319,27 @@ fn finish_entry<E: Fixed, R: Rules>(
         ..record
     };
     let mut present = Counts::of(&mut after);
-    present.add::<E, R>(record.head, leading[0]);
+    present.add::<R>(record.head, leading[0]);
     if let Entered::Displacing(older) = entered {
-        present.displace::<E, R>(area, older);
+        present.displace::<R>(area, older);
     }
     Ok((after, record.next))
 }
 
-/// The record with a new head in place.
-fn new_head(record: &Record, slot: u32, length: u32, victims: SlotMap) -> Result<Record, Refusal> {
+/// The record with a new head of an edition in place.
+fn new_head<E: Fixed>(
+    record: &Record,
+    slot: u32,
+    length: u32,
+    victims: SlotMap,
+) -> Result<Record, Refusal> {
     let number = record.digest.0.checked_add(1).ok_or(Refusal::Record)?;
     Ok(Record {
         head: slot,
         end: length,
         digest: DigestNumber(number),
         map: record.map.without(victims).with(slot),
+        edition: E::LAYOUT.edition,
         pending: Pending::None,
         ..*record
     })

@@ -6,7 +6,6 @@
 //! as long as fewer than `FILTER_BITS` separate them.
 
 use crate::counters::Version;
-use crate::edition::Fixed;
 use crate::log::walk;
 use crate::refusal::Refusal;
 
@@ -59,47 +58,47 @@ impl Filter {
     /// Refuses with 19 if two entries of the log have one version. The log has no
     /// damage, and every entry of it was noted once.
     #[inline]
-    pub(crate) fn check<E: Fixed>(
+    pub(crate) fn check(
         &mut self,
         area: &[u8],
         slot_bytes: u32,
         slots: impl Iterator<Item = u32> + Clone,
     ) -> Result<(), Refusal> {
         if self.overflowed {
-            self.check_in_parts::<E>(area, slot_bytes, slots)
+            self.check_in_parts(area, slot_bytes, slots)
         } else {
-            self.check_suspects::<E>(area, slot_bytes, slots)
+            self.check_suspects(area, slot_bytes, slots)
         }
     }
 
     /// Notes the whole log again and looks at the suspects whenever they are many.
     #[cold]
-    fn check_in_parts<E: Fixed>(
+    fn check_in_parts(
         &mut self,
         area: &[u8],
         slot_bytes: u32,
         slots: impl Iterator<Item = u32> + Clone,
     ) -> Result<(), Refusal> {
         *self = Filter::new();
-        walk::<E>(
+        walk!(
             area,
             slot_bytes,
             slots.clone(),
             Refusal::Entry,
             |_, fields| {
                 if self.count == SUSPECTS {
-                    self.check_suspects::<E>(area, slot_bytes, slots.clone())?;
+                    self.check_suspects(area, slot_bytes, slots.clone())?;
                 }
                 self.note(fields.version);
                 Ok(())
-            },
+            }
         )?;
-        self.check_suspects::<E>(area, slot_bytes, slots)
+        self.check_suspects(area, slot_bytes, slots)
     }
 
     /// Counts the suspects in the log and lets them go. Each is the version of an
     /// entry, so more entries than suspects means that one version is shared.
-    fn check_suspects<E: Fixed>(
+    fn check_suspects(
         &mut self,
         area: &[u8],
         slot_bytes: u32,
@@ -116,7 +115,7 @@ impl Filter {
         }
         let marks = Marks::of(suspects);
         let mut entries = 0;
-        walk::<E>(area, slot_bytes, slots, Refusal::Entry, |_, fields| {
+        walk!(area, slot_bytes, slots, Refusal::Entry, |_, fields| {
             let version = fields.version;
             if marks.may_have(version) && suspects.binary_search(&version).is_ok() {
                 entries += 1;

@@ -10,7 +10,6 @@ use Rattle.record.specs.Range.{fitsLent}
 use Rattle.record.specs.RangeLaws.{lent}
 use Rattle.record.specs.declared.Refusal.the-variants.{BadRecord}
 use Rattle.record.specs.declared.TellAnswer.{TellAnswer}
-use Rattle.laws.specs.OperationsKept.{edition-roomy}
 use Rattle.telling.specs.BareLaws.{found-bad}
 use Rattle.telling.specs.Told.{foundBy}
 use Rattle.stepping.specs.OnLaws.{found-refused, found-stored, fit-own, told-found, Found, found-known}
@@ -28,26 +27,26 @@ at : (c : tie.After-place)
 at c =
     let s = c .before .before in
     let a = s .before .before .before .before .before .before .before .args in
-    sym (told-found _ (edition-roomy _) (a .rec) (now (a .area)) (now (a .index)) (now (a .work)) (fit (s .before .before)) (s .store-of .ensures)) ∙ c .place .given .1
+    sym (told-found _ (a .rec) (now (a .area)) (now (a .index)) (now (a .work)) (fit (s .before .before)) (s .store-of .ensures)) ∙ c .place .given .1
 
 known : (c : tie.After-place)
     → let a = c .before .before .before .before .before .before .before .before .before .args in
-    Found (a .rec .edition) (edition-roomy _) (a .rec) (now (a .area)) (now (a .index)) (now (a .work)) (fit (c .before .before .before .before)) (c .place .given .0 .0) (c .place .given .0 .1 .0) (at c)
+    Found (a .rec .edition) (a .rec) (now (a .area)) (now (a .index)) (now (a .work)) (fit (c .before .before .before .before)) (c .place .given .0 .0) (c .place .given .0 .1 .0) (at c)
 known c =
     let a = c .before .before .before .before .before .before .before .before .before .args in
-    found-known _ (edition-roomy _) (a .rec) (now (a .area)) (now (a .index)) (now (a .work)) (fit (c .before .before .before .before)) _ _ (at c)
+    found-known _ (a .rec) (now (a .area)) (now (a .index)) (now (a .work)) (fit (c .before .before .before .before)) _ _ (at c)
 
 returns : tie.Need-returns
 returns c =
     let a = c .before .before .before .before .before .before .args in
-    found-refused _ (edition-roomy _) (a .rec) (now (a .area)) (now (a .index)) (now (a .work)) BadRecord
+    found-refused _ (a .rec) (now (a .area)) (now (a .index)) (now (a .work)) BadRecord
     (sym (found-bad _ (a .rec) (now (a .area)) (length (now (a .index))) (now (a .work)) (c .before .before .fits-lent .ensures) (c .before .if1 .taken)))
     (c .refused .ensures)
 
 store-of-requires : tie.Need-store-of-requires
 store-of-requires c κs =
     let a = c .before .before .before .before .before .before .args in
-    fit-own _ (edition-roomy _) (a .rec) (now (a .area)) (now (a .index)) (now (a .work)) (fit (c .before))
+    fit-own _ (a .rec) (now (a .area)) (now (a .index)) (now (a .work)) (fit (c .before))
 
 slice-write-area : tie.Need-slice-write-area
 slice-write-area c = known (c .before) .place
@@ -63,15 +62,15 @@ returns-2 : tie.Need-returns-2
 returns-2 c =
     let s = c .before .before .before .before in
     let a = s .before .before .before .before .before .before .before .args in
-    found-refused _ (edition-roomy _) (a .rec) (now (a .area)) (now (a .index)) (now (a .work)) _
-    (sym (told-found _ (edition-roomy _) (a .rec) (now (a .area)) (now (a .index)) (now (a .work)) (fit (s .before .before)) (s .store-of .ensures)) ∙ c .before .before .cause .given .1)
+    found-refused _ (a .rec) (now (a .area)) (now (a .index)) (now (a .work)) _
+    (sym (told-found _ (a .rec) (now (a .area)) (now (a .index)) (now (a .work)) (fit (s .before .before)) (s .store-of .ensures)) ∙ c .before .before .cause .given .1)
     (c .refused2 .ensures)
 
 returns-3 : tie.Need-returns-3
 returns-3 c =
     let p = c .before .before .before .before .before .before in
     let a = p .before .before .before .before .before .before .before .before .before .args in
-    found-stored _ (edition-roomy _) (a .rec) (now (a .area)) (now (a .index)) (now (a .work)) _ _ (at p) (c .before .before .advance .ensures) (search needs)
+    found-stored _ (a .rec) (now (a .area)) (now (a .index)) (now (a .work)) _ _ (at p) (c .before .before .advance .ensures) (search needs)
 
 pub step-spec : {M : Type 1} → statement M
 step-spec =

@@ -5,7 +5,7 @@ use mathlib.Core.Path.{_≡_, sym, _∙_, ap}
 use mathlib.Core.Bool.{true}
 use borrow.Author.Tests.{not-true, not-false}
 use native.Mathlib.Omega.{arith}
-use Rattle.segment.specs.LayoutLaws.{width-high}
+use Rattle.segment.specs.Layout.{table}
 use Rattle.record.specs.Range.{countsGood}
 use Rattle.record.specs.RangeLaws.{Limits, frontGood, front-limits}
 use Rattle.words.specs.Words.{countsIn, isRecord}
@@ -56,12 +56,14 @@ returns-3 c =
 part-counts-good-end : tie.Need-part-counts-good-end
 part-counts-good-end c = omega (arith, record-long _ (are-record (c .before .before .before .before .before .before .before)))
 
--- a digest is at most 17 bytes long
+-- the shortest digest is 13 bytes long
 cast-counts-good : tie.Need-cast-counts-good
-cast-counts-good c = record { fits = omega (arith, c .digest-size .ensures, width-high (c .before .before .before .before .before .before .before .before .front-in .result .edition)) }
+unfolding table
+cast-counts-good c = record { fits = omega (arith, c .digest-size .ensures) }
 
 sub-counts-good-2 : tie.Need-sub-counts-good-2
-sub-counts-good-2 c = omega (arith, within (c .before .before .before .before .before), c .before .digest-size .ensures, width-high (c .before .before .before .before .before .before .before .before .before .front-in .result .edition))
+unfolding table
+sub-counts-good-2 c = omega (arith, within (c .before .before .before .before .before), c .before .digest-size .ensures)
 
 returns-4 : tie.Need-returns-4
 returns-4 c =

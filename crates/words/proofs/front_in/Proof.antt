@@ -7,8 +7,8 @@ use Rattle.words.proofs.front_in.Tie as tie
 
 returns : tie.Need-returns
 returns c =
-    let w = c .before .before .before .before .before .before .before .before .before .before .before .before .before .before .before .before .before .before .before .before .args .words .now in
-    λ i. recordWith w (c .before .before .before .before .before .before .before .before .before .before .before .before .before .before .before .before .before .edition-of .ensures i) (c .before .next-of .ensures i) (replicate 32 0) (c .before .before .before .before .before .before .before .before .before .before .before .pending-of .ensures i)
+    let w = c .before .before .before .before .before .before .before .before .before .before .before .before .before .before .before .before .before .before .before .before .before .args .words .now in
+    λ i. recordWith w (c .before .before .before .before .before .before .before .before .before .before .before .before .before .before .before .before .before .before .edition-of .ensures i) (c .before .next-of .ensures i) (replicate 32 0) (c .before .before .before .before .before .before .before .before .before .before .before .before .pending-of .ensures i)
 
 pub front-in-spec : {M : Type 1} → statement M
 front-in-spec =
@@ -22,6 +22,7 @@ front-in-spec =
     (λ c. search needs)
     (λ c. search needs)
     (λ c κs. search needs)
+    (λ c. search needs)
     (λ c. search needs)
     (λ c. search needs)
     (λ c. search needs)

@@ -51,7 +51,7 @@ same-length : tie.Need-same-length
 same-length c = simp length-set (omega arith)
 
 returns : tie.Need-returns
-returns c = rw (c .edition-number .ensures)
+returns c = rw (c .before .edition-number .ensures, c .switch-number .ensures)
 
 pub put-numbers-spec : {M : Type 1} → statement M
 put-numbers-spec =
@@ -71,6 +71,7 @@ put-numbers-spec =
     slice-write-words-10
     (λ c κs. search needs)
     slice-write-words-11
+    (λ c κs. search needs)
     slice-write-words-12
     same-length
     returns)

@@ -93,8 +93,7 @@ impl<S: Subject> Bench<S> {
         }
     }
 
-    /// The starts, the calls that choose slots, those without a record, and the events that no implementation has a call
-    /// for yet.
+    /// The starts, the switch, the calls that choose slots and those without a record; any other event has no call.
     fn operation(&mut self, event: &Event, changes: &Changes) -> Checked {
         match event {
             Event::Write {
@@ -118,6 +117,7 @@ impl<S: Subject> Bench<S> {
             Event::Clean { victims, owed } => self.start(Start::Clean(*victims), owed, changes),
             Event::Fewest(owed) => self.fewest(owed, changes),
             Event::Join(owed) => self.join(owed, changes),
+            Event::Switch(owed) => self.switch(owed, changes),
             Event::FromFloat { value, owed } => check_converted(owed, S::from_float(value)),
             Event::ToFloat { value, owed } => check_converted(owed, S::to_float(value)),
             Event::ScanRead { key, range, owed } => {
@@ -391,6 +391,19 @@ impl<S: Subject> Bench<S> {
             same("slot", *owed, slot)?;
         }
         if record != before {
+            return Err(Difference::new("record", "as it was", "changed"));
+        }
+        Ok(())
+    }
+
+    /// The record alone is changed: what else is lent does not matter.
+    fn switch(&mut self, owed: &Owed<Record>, changes: &Changes) -> Checked {
+        let (before, _) = self.lend(changes)?;
+        let mut record = before.clone();
+        if let Some((owed, ())) = settled(owed, S::switch(&mut record))? {
+            check_record::<S>(owed, &record)?;
+            self.record = Some(record);
+        } else if record != before {
             return Err(Difference::new("record", "as it was", "changed"));
         }
         Ok(())

@@ -103,6 +103,10 @@ impl Subject for Library {
         record.fewest().map_err(refused)
     }
 
+    fn switch(record: &mut kurdavel::Record) -> Answer<()> {
+        record.switch().map_err(refused)
+    }
+
     fn join(record: &kurdavel::Record, memory: &Memory) -> Answer<(u32, u32)> {
         record.join(&memory.area, &memory.index).map_err(refused)
     }
@@ -150,7 +154,7 @@ impl Subject for Library {
             left: (fields.pending != Pending::Idle).then_some(fields.pending.left()),
             present_bytes: Some(present_of(fields.slots, &fields.present_bytes)),
             edition: Some(fields.edition.number()),
-            switched: None,
+            switched: Some((fields.switched || fields.edition == Edition::Second).into()),
         })
     }
 

@@ -19,4 +19,4 @@ pub mod words;
 
 /// The file of the newest level that has landed, which the tests replay. The next level's file takes its place here
 /// and in the folder.
-pub const NEWEST: &str = concat!(env!("CARGO_MANIFEST_DIR"), "/vectors/level-12.txt");
+pub const NEWEST: &str = concat!(env!("CARGO_MANIFEST_DIR"), "/vectors/level-13.txt");

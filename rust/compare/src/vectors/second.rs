@@ -105,6 +105,12 @@ impl Subject for Second {
         reference::fewest(record).map_err(refused)
     }
 
+    fn switch(record: &mut reference::Record) -> Answer<()> {
+        let (after, answer) = reference::switch(*record);
+        *record = after;
+        answer.map_err(refused)
+    }
+
     fn join(record: &reference::Record, memory: &Memory) -> Answer<(u32, u32)> {
         reference::join(record, &memory.area, &memory.index).map_err(refused)
     }
@@ -159,7 +165,7 @@ impl Subject for Second {
             left: (record.pending != Pending::None).then_some(record.pending.left()),
             present_bytes: Some(present_of(record.slots, &record.present_bytes)),
             edition: Some(record.edition.0),
-            switched: None,
+            switched: Some((record.switched || record.edition == Edition::SECOND).into()),
         })
     }
 

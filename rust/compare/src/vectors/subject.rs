@@ -101,6 +101,9 @@ pub trait Subject {
     /// The slot of the log with the fewest present bytes.
     fn fewest(record: &Self::Record) -> Answer<u32>;
 
+    /// Switches the store.
+    fn switch(record: &mut Self::Record) -> Answer<()>;
+
     /// The lowest two slots whose kept entries fit one new head.
     fn join(record: &Self::Record, memory: &Memory) -> Answer<(u32, u32)>;
 

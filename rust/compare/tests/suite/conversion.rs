@@ -73,6 +73,7 @@ fn tight_slots() {
             slots: 4,
             slot_bytes: rng.within(256, 330),
             layout: &FIRST,
+            older_slots: false,
             keys: 40,
             versions: Versions::InARow,
             values: values.to_vec(),
@@ -102,6 +103,7 @@ fn wide_versions() {
     for _ in 0..20_000 {
         let mut shape = Shape::random(&mut rng, Edition::SECOND);
         shape.slot_bytes = shape.slot_bytes.min(400);
+        shape.older_slots = false;
         shape.versions = Versions::InARow;
         let mut image = shape.make(&mut rng);
         let at = match image.entries.is_empty() || rng.one_in(2) {
@@ -121,7 +123,7 @@ fn wide_versions() {
 fn full_areas() {
     let mut rng = Rng::new(124);
     let mut met = [0; 31];
-    for round in 0..300 {
+    for round in 0..400 {
         let edition = Edition::ALL[round / 2 % 2];
         let mut image = Image::with_many_keys(&mut rng, edition);
         if round % 2 == 0 {

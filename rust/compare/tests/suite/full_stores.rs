@@ -130,6 +130,7 @@ fn short_histories() {
             ],
             histories: 0,
             cuts: 0,
+            switches: false,
         };
         let done = explorer.explore(&pair, 3, false);
         must(&mut pair, done);

@@ -35,6 +35,9 @@ fn go_on(rng: &mut Rng, image: &Image, cells: usize, tally: &mut Tally) -> Resul
     tally.recovered += 1;
     let keys: Vec<Key> = (0..8).map(|_| image.some_key(rng)).collect();
     for _ in 0..8 {
+        if rng.one_in(6) {
+            let _ = pair.switch()?;
+        }
         let operation = calls::operation(rng, &keys, pair.record(), 4);
         tally.count(pair.start_somehow(rng, &operation)?);
         if rng.one_in(4) {

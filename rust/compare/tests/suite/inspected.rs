@@ -58,7 +58,7 @@ fn check_present(image: &Image, report: &Report, record: &kurdavel::Record, inde
 fn verdicts_and_present_entries() {
     let mut rng = Rng::new(34);
     let mut met = [0; 64];
-    for round in 0..1500 {
+    for round in 0..2400 {
         let edition = *rng.pick(&Edition::ALL);
         let mut made = Shape::random(&mut rng, edition).make(&mut rng);
         if round % 3 > 0 {

@@ -14,6 +14,7 @@ mod refused_calls;
 mod replay_program;
 mod rig;
 mod short_histories;
+mod switching;
 mod two_owners;
 mod vectors;
 mod vectors_changed;

@@ -1,7 +1,7 @@
 //! Records, indexes, areas and work buffers that no start or recovery gave: no call leaves what it is lent, a start
 //! changes no byte of the area, and a step at most one. Where the range and length tests refuse the record, both
-//! answer 4; where a step is refused with 3 or 6, both do. The slot with the fewest present bytes is the same for both,
-//! whatever the record says.
+//! answer 4; where a step is refused with 3 or 6, both do. The slot with the fewest present bytes and the switch are the same
+//! for both, whatever the record says.
 
 use compare::guarded::Guarded;
 use compare::translate;
@@ -46,6 +46,11 @@ impl Lent {
         let found = translate::proved(record.read(area, index, tables, key).map(|_| 0));
         let fewest = translate::reference(reference::fewest(&self.record));
         assert_eq!(translate::proved(record.fewest()), fewest);
+        let mut switched = record;
+        let answer = translate::proved(switched.switch());
+        let (owed, told) = reference::switch(self.record);
+        assert_eq!(answer, translate::reference(told));
+        assert_eq!(switched, translate::record(owed));
         let value = record.read_value(area, index, tables, key);
         assert!(value.len() <= 120);
         assert!(area.as_ptr_range().contains(&value.as_ptr()));

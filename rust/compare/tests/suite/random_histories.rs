@@ -15,6 +15,8 @@ struct Tally {
     forgotten: u32,
     /// Writes that met 12 and were accepted after a join.
     joined: u32,
+    /// Starts on slots of both editions.
+    mixed: u32,
     cuts: u32,
     refused: [u32; 29],
 }
@@ -35,6 +37,8 @@ struct Player {
     tally: Tally,
     /// One operation in so many is a cleaning.
     clean_rarity: u32,
+    /// Whether the store may be switched.
+    switches: bool,
 }
 
 impl Player {
@@ -68,12 +72,14 @@ impl Player {
             .collect();
         pair.must_recover(&rng.order(slots))?;
         let clean_rarity = *rng.pick(&[4, 8, 30]);
+        let switches = rng.one_in(2);
         Ok(Player {
             rng,
             pair,
             keys,
             tally: Tally::default(),
             clean_rarity,
+            switches,
         })
     }
 
@@ -124,6 +130,10 @@ impl Player {
                 let answer = self.pair.join()?;
                 self.tally.count(answer);
             }
+            5 if self.switches => {
+                let answer = self.pair.switch()?;
+                self.tally.count(answer);
+            }
             4 | 5 => self.start()?,
             6 | 7 => self.few_steps()?,
             8..=11 => {
@@ -151,9 +161,13 @@ impl Player {
         let operation = calls::operation(rng, &self.keys, record, self.clean_rarity);
         let answer = self.pair.start_somehow(rng, &operation)?;
         self.tally.count(answer);
+        let mixed = record.edition == Edition::SECOND && !self.pair.old_slots().is_empty();
+        self.tally.mixed += u32::from(mixed);
         let forget = matches!(self.pair.record().pending, Pending::Forget { .. });
         self.tally.forgotten += u32::from(answer.is_ok() && forget);
-        if answer == Err(12) && record.digest.0 <= u32::MAX - 2 && self.rng.one_in(6) {
+        let is_write = matches!(operation, Operation::Write(..));
+        let refused = is_write && answer == Err(12) && record.digest.0 <= u32::MAX - 2;
+        if refused && self.rng.one_in(6) {
             self.join_and_write(&operation)?;
         }
         Ok(())
@@ -233,6 +247,7 @@ fn play_all(seeds: std::ops::Range<u64>, actions: u32) -> Tally {
         total.operations += player.tally.operations;
         total.forgotten += player.tally.forgotten;
         total.joined += player.tally.joined;
+        total.mixed += player.tally.mixed;
         total.cuts += player.tally.cuts;
         for (sum, count) in total.refused.iter_mut().zip(player.tally.refused) {
             *sum += count;
@@ -242,8 +257,10 @@ fn play_all(seeds: std::ops::Range<u64>, actions: u32) -> Tally {
         "{} accepted calls, {} of them deletes on a full store, {} joins, {} cuts, refused {:?}",
         total.operations, total.forgotten, total.joined, total.cuts, total.refused
     );
+    println!("{} starts on slots of both editions", total.mixed);
     assert!(total.forgotten > 300, "{}", total.forgotten);
     assert!(total.joined > 100, "{}", total.joined);
+    assert!(total.mixed > 500, "{}", total.mixed);
     total
 }
 

@@ -16,8 +16,6 @@ const END: usize = 4;
 const NEXT: usize = 7;
 const NEXT_HIGH: usize = 8;
 const PRESENT: usize = 17;
-/// The word in reserve.
-const RESERVE: usize = 11;
 
 /// A store with a written key, and with a write pending if asked.
 fn store(rng: &mut Rng, edition: Edition, pending: bool) -> Pair {
@@ -135,15 +133,16 @@ fn refuse_all(words: &[u32], area: &[u8], index: &[u32], work_bytes: usize) {
     assert!(lent_area.is_intact() && lent_index.is_intact());
 }
 
-/// The call on the record alone, on words that it must refuse with 4.
-fn refuse_fewest(words: &[u32]) {
-    let record = Guarded::new(words, 9);
+/// The calls on the record alone, on words that they must refuse with 4.
+fn refuse_alone(words: &[u32]) {
+    let mut record = Guarded::new(words, 9);
     let mut slot = 71;
     assert_eq!(
         (slices::fewest(&record, &mut slot), slot),
         (4, 0),
         "{words:?}"
     );
+    assert_eq!(slices::switch(&mut record), 4, "{words:?}");
     assert!(record[..] == words[..] && record.is_intact());
 }
 
@@ -173,7 +172,7 @@ fn records_that_are_none() {
         }
         refuse_all(&words, &area, &index, pair.work_bytes());
         if words != genuine {
-            refuse_fewest(&words);
+            refuse_alone(&words);
         }
     }
 }
@@ -220,27 +219,65 @@ fn next_version_above_the_limit() {
         for next in [1 << 32, 1 << 63, u64::MAX] {
             let words = with_next(translate::record(pair.record()).words(), next);
             refuse_all(&words, area, index, pair.work_bytes());
-            refuse_fewest(&words);
+            refuse_alone(&words);
         }
     }
 }
 
-/// The end, the present bytes and what a next version may be go by the record's edition: words of one edition that are in
-/// range, but not in the other's.
+/// The end goes by the edition of the record's head; the present bytes may reach S - 13 in either, as in a slot of the first
+/// edition under a head of the second.
 #[test]
 fn range_by_the_edition() {
     for pending in [false, true] {
         let pair = store(&mut Rng::new(5), Edition::SECOND, pending);
         let (area, index) = (pair.area(), pair.index());
-        let most = pair.slot_bytes() - 17;
-        for (word, number) in [(END, 16), (PRESENT, most + 1), (PRESENT + 31, most + 4)] {
+        let most = pair.slot_bytes() - 13;
+        for (word, number, in_second) in [
+            (END, 16, false),
+            (PRESENT, most - 3, true),
+            (PRESENT + 31, most, true),
+        ] {
             let mut words = *translate::record(pair.record()).words();
             words[word] = number;
-            refuse_all(&words, area, index, pair.work_bytes());
-            refuse_fewest(&words);
-            words[translate::EDITION] = 1;
             let mut slot = 0;
+            if in_second {
+                assert_eq!(slices::fewest(&words, &mut slot), 0, "{words:?}");
+            } else {
+                refuse_all(&words, area, index, pair.work_bytes());
+                refuse_alone(&words);
+            }
+            words[translate::EDITION] = 1;
             assert_eq!(slices::fewest(&words, &mut slot), 0, "{words:?}");
+            words[PRESENT + 7] = most + 1;
+            refuse_alone(&words);
+            words[translate::EDITION] = 2;
+            refuse_alone(&words);
+        }
+    }
+}
+
+/// The switch is accepted once and again, and refused with 5 while an operation is under way; a record that has words behind it
+/// keeps them.
+#[test]
+fn switches() {
+    for edition in Edition::ALL {
+        for pending in [false, true] {
+            let pair = store(&mut Rng::new(6), edition, pending);
+            let genuine = *translate::record(pair.record()).words();
+            let mut words = [genuine.to_vec(), vec![6; 3]].concat();
+            let mut owed = words.clone();
+            if !pending && edition == Edition::FIRST {
+                owed[translate::SWITCHED] = 1;
+            }
+            for _ in 0..2 {
+                assert_eq!(slices::switch(&mut words), if pending { 5 } else { 0 });
+                assert_eq!(words, owed);
+            }
+            for length in 0..WORDS {
+                let mut words = genuine[..length].to_vec();
+                assert_eq!(slices::switch(&mut words), 4);
+                assert_eq!(words, genuine[..length]);
+            }
         }
     }
 }
@@ -269,8 +306,8 @@ fn expected_version_in_all_its_bits() {
     }
 }
 
-/// Makes the words of a pending operation none that encode one, the edition none that there is, or the word in reserve other
-/// than 0.
+/// Makes the words of a pending operation none that encode one, the edition none that there is, or the switch neither 0 nor
+/// 1.
 fn spoil(rng: &mut Rng, words: &mut [u32]) {
     let other = rng.bits() as u32 | 1;
     match rng.below(6) {
@@ -279,7 +316,7 @@ fn spoil(rng: &mut Rng, words: &mut [u32]) {
         2 => words[12..17].copy_from_slice(&[1, other, 0, 19, 20]),
         3 => words[12..17].copy_from_slice(&[2, 1, other, 32, 33]),
         4 => words[translate::EDITION] = *rng.pick(&[0, 3, 257, 258, other | 4]),
-        _ => words[RESERVE] = other,
+        _ => words[translate::SWITCHED] = *rng.pick(&[2, 256, 257, other | 2]),
     }
     assert_eq!(Record::from_words(words.try_into().unwrap()).fields(), None);
 }

@@ -1,14 +1,18 @@
-//! Every history of up to four operations over two keys, cut after every store.
+//! Every history of up to four operations over two keys, cut after every store; also in a store that is switched anew after every
+//! recovery.
 
 use compare::pair::Pair;
 use compare::Fault;
+use reference::book::Operation;
 use reference::testing::choices::{two_keys, Choice, A, B, ORDERS};
-use reference::Edition;
+use reference::{Edition, Version};
 
 pub struct Explorer {
     pub choices: Vec<Choice>,
     pub histories: u64,
     pub cuts: u64,
+    /// Whether the store is switched after each recovery.
+    pub switches: bool,
 }
 
 impl Explorer {
@@ -47,6 +51,10 @@ impl Explorer {
                 check_reads(&copy)?;
                 self.cuts += 1;
             }
+            if self.switches {
+                copy.switch()?
+                    .map_err(|refusal| format!("switch refused: {refusal}"))?;
+            }
             self.explore(&copy, depth - 1, true)?;
             if done < stores {
                 let _ = pair.step()?;
@@ -72,12 +80,56 @@ fn explore_all(edition: Edition, slot_bytes: u32, fill: u8, bytes: [usize; 2]) {
         choices: two_keys(bytes),
         histories: 0,
         cuts: 0,
+        switches: false,
     };
     if let Err(fault) = explorer.explore(&pair, 4, false) {
         panic!("{fault}");
     }
     println!("{} histories, {} cuts", explorer.histories, explorer.cuts);
     assert!(explorer.histories > 780);
+}
+
+/// A store of the first edition with so many versions left in it, which has entries in two slots and is switched.
+fn explore_switched(fill: u8, bytes: [usize; 2], versions_left: u64) {
+    let mut pair = Pair::unrecovered(4, 256, 16, &[fill; 1024]);
+    let done = switched(&mut pair, versions_left).and_then(|()| {
+        let mut explorer = Explorer {
+            choices: two_keys(bytes),
+            histories: 0,
+            cuts: 0,
+            switches: true,
+        };
+        explorer.explore(&pair, 3, false)?;
+        println!("{} histories, {} cuts", explorer.histories, explorer.cuts);
+        assert!(explorer.histories > 150);
+        Ok(())
+    });
+    done.unwrap_or_else(|fault| panic!("{fault}"));
+}
+
+fn switched(pair: &mut Pair, versions_left: u64) -> Result<(), Fault> {
+    let _ = pair.format(4, 256, Edition::FIRST)?;
+    pair.age_next(Version(u64::from(u32::MAX) - versions_left - 5));
+    pair.must_recover(&ORDERS[0])?;
+    for key in [A, B, A, B, A] {
+        let _ = pair.begin(&Operation::Write(key, vec![3; 56]))?;
+        pair.finish()?;
+    }
+    assert_eq!(pair.record().map.count(), 2);
+    assert_eq!(pair.switch()?, Ok(()));
+    Ok(())
+}
+
+#[test]
+fn switched_stores() {
+    explore_switched(1, [8, 8], 1 << 20);
+    explore_switched(8, [120, 56], 1 << 20);
+}
+
+#[test]
+fn switched_stores_whose_versions_run_out() {
+    explore_switched(9, [8, 24], 1);
+    explore_switched(13, [56, 120], 0);
 }
 
 #[test]

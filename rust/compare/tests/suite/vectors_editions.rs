@@ -37,14 +37,13 @@ fn hex(bytes: &[u8]) -> String {
     bytes.iter().map(|byte| format!("{byte:02x}")).collect()
 }
 
-/// A history of edition 2, a line for each event, and an image of both editions.
+/// A history of edition 2, a line for each event, and an image with a slot of edition 2 under a head of edition 1.
 fn lines() -> Vec<String> {
     let fnv = |area: &[u8]| format!("{:016x}", fnv1a(area));
     let (fresh, written) = (area(1, false), area(NEXT, true));
     let mixed = {
         let mut area = written.clone();
-        area[5] = 3;
-        area[256..261].copy_from_slice(&[5, 0, 0, 0, 0]);
+        area[256..270].copy_from_slice(&[5, 2, 0, 0, 0, 3, 0, 0, 0, 1, 0, 0, 0, 0]);
         area
     };
     vec![

@@ -6,6 +6,7 @@ use compare::vectors::event::{Changes, Event, Field, Geometry, Record};
 use compare::vectors::reader;
 use compare::vectors::second::Second;
 use compare::vectors::subject::{Answer, Asked, Memory, No, Progress, Start, Subject};
+use reference::Edition;
 
 use crate::vectors::{level, text};
 
@@ -30,6 +31,8 @@ const NEXT_STORE_ONE_TOO_HIGH: u32 = 17;
 const NEXT_STORE_OF_AN_IDLE_RECORD: u32 = 18;
 const REFUSED_CONVERSION_STORES: u32 = 19;
 const CONVERSION_LEAVES_A_BYTE: u32 = 20;
+const REFUSED_SWITCH_CHANGES_RECORD: u32 = 21;
+const SWITCH_CHANGES_MORE: u32 = 22;
 
 /// The reference with one fault.
 #[derive(Clone, Copy, Debug)]
@@ -130,6 +133,16 @@ impl<const FAULT: u32> Subject for Faulty<FAULT> {
 
     fn fewest(record: &reference::Record) -> Answer<u32> {
         Second::fewest(record)
+    }
+
+    fn switch(record: &mut reference::Record) -> Answer<()> {
+        let answer = Second::switch(record);
+        match (FAULT, &answer) {
+            (REFUSED_SWITCH_CHANGES_RECORD, Err(_)) => record.keys ^= 1,
+            (SWITCH_CHANGES_MORE, Ok(())) => record.edition = Edition::SECOND,
+            _ => {}
+        }
+        answer
     }
 
     fn join(record: &reference::Record, memory: &Memory) -> Answer<(u32, u32)> {
@@ -233,5 +246,7 @@ fn faulty_implementations() {
     caught_as::<NEXT_STORE_ONE_TOO_HIGH>(&["place told before", "area after the store told"]);
     caught::<NEXT_STORE_OF_AN_IDLE_RECORD>("answer");
     caught::<REFUSED_CONVERSION_STORES>("target at");
+    caught::<REFUSED_SWITCH_CHANGES_RECORD>("record");
+    caught::<SWITCH_CHANGES_MORE>("record, edition");
     caught_as::<CONVERSION_LEAVES_A_BYTE>(&["target at", "FNV of the target"]);
 }

@@ -247,14 +247,14 @@ fn conversions_without_a_store() {
     );
 }
 
-/// An event that needs a later request is a mismatch that says so.
+/// A call on a record that no recovery gave is a mismatch that says so.
 #[test]
-fn calls_that_are_not_there_yet() {
-    let text = "history h 4 256 1\nswitch -> refused 4\nhistory h 4 256 1\nswitch -> refused 5\n";
+fn calls_without_a_record() {
+    let text = "history h 4 256 1\nswitch -> refused 4\nhistory h 4 256 1\nfewest -> refused 4\n";
     let report = replay("text", at(Level::LAST), text.as_bytes()).unwrap();
     assert_eq!((report.library.failures, report.reference.failures), (2, 2));
     for failure in report.failures() {
-        assert!(failure.difference.found.contains("no call"), "{failure}");
+        assert_eq!(failure.difference.field, "record", "{failure}");
     }
 }
 

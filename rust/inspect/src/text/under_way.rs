@@ -1,5 +1,6 @@
 //! What was under way, in words.
 
+use std::collections::BTreeSet;
 use std::fmt::Write;
 
 use crate::evidence::Range;
@@ -52,6 +53,9 @@ fn progress(range: Range, totals: &[String]) -> String {
     }
 }
 
+/// Said of an operation of a store that was switched.
+const SWITCHED: &str = ", in edition 2 after a switch";
+
 /// Candidates that differ in nothing but the length of a write, told as one.
 fn told(alike: &[Candidate]) -> Option<String> {
     let first = alike.first()?;
@@ -67,14 +71,18 @@ fn told(alike: &[Candidate]) -> Option<String> {
         .filter_map(|one| Some(one.total?.to_string()))
         .collect();
     let name = operation(first.operation, &lengths);
-    Some(format!("{name}: {}", progress(first.range, &totals)))
+    let switched = if first.is_switched { SWITCHED } else { "" };
+    Some(format!(
+        "{name}{switched}: {}",
+        progress(first.range, &totals)
+    ))
 }
 
 /// Whether two candidates are told as one.
 fn are_alike(one: &Candidate, other: &Candidate) -> bool {
     match (one.operation, other.operation) {
         (Operation::Write(_, key), Operation::Write(_, other_key)) => {
-            key == other_key && one.range == other.range
+            key == other_key && one.range == other.range && one.is_switched == other.is_switched
         }
         _ => false,
     }
@@ -167,9 +175,12 @@ fn unknown(candidates: &[Candidate]) -> Vec<&'static str> {
         let is_open = |one: &&Candidate| Some(one.range.least) != one.total;
         candidates.iter().filter(is_open)
     };
-    let writes = open()
-        .filter(|one| matches!(one.operation, Operation::Write(_, Some(_))))
-        .count();
+    let length = |one: &Candidate| match one.operation {
+        Operation::Write(bytes, Some(_)) => Some(bytes),
+        _ => None,
+    };
+    let lengths: BTreeSet<usize> = open().filter_map(length).collect();
+    let writes = lengths.len();
     let deletes = open()
         .filter(|one| matches!(one.operation, Operation::Delete(Some(_))))
         .count();

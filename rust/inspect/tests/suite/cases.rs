@@ -232,24 +232,52 @@ fn faults_of_the_second_edition() {
 /// A log of both editions is refused with 28, whichever the head is of, and each slot is listed by its own.
 #[test]
 fn log_of_both_editions() {
-    for (own, other, number) in [(&FIRST, &SECOND, 1), (&SECOND, &FIRST, 2)] {
+    for (own, other) in [(&FIRST, &SECOND), (&SECOND, &FIRST)] {
         let mut area = store_of(own, 0b0011);
         put(&mut area, 0, &store_of(other, 0b0011)[..17]);
         let first = entry_of(other, other.objects[0], 3);
         let second = entry_of(own, own.objects[1], 4);
         put(&mut area, other.digest_bytes(), &first);
         put(&mut area, 256 + own.digest_bytes(), &second);
-        let words = format!(
-            "slot 0 of the log is of edition {}, and the head, slot 1, of edition {number}",
-            3 - number
-        );
-        is_refused(area.clone(), 0, 0, &words);
-        let report = Report::of(&image(area));
-        let refused = report.verdict.as_ref().unwrap_err();
-        assert_eq!(refused.refusal.number(), 28);
+        let report = Report::of(&image(area.clone()));
         let values = report.entries.iter().map(|entry| entry.value.len());
         assert_eq!(values.collect::<Vec<_>>(), [8, 24]);
+        if own == &FIRST {
+            let words = "slot 0 of the log is of edition 2, and the head, slot 1, of edition 1";
+            is_refused(area, 0, 0, words);
+            let refused = report.verdict.as_ref().unwrap_err();
+            assert_eq!(refused.refusal.number(), 28);
+        } else {
+            // A store on its way over: each slot is told in its own edition.
+            let recovered = report.verdict.as_ref().unwrap();
+            assert_eq!(recovered.record.edition.0, 2);
+            let editions = report.rows[..2].iter().map(|row| row.digest.unwrap());
+            let editions: Vec<u32> = editions.map(|digest| digest.layout.edition.0).collect();
+            assert_eq!(editions, [1, 2]);
+        }
     }
+}
+
+/// A cleaning in a switched store whose old slot was the head, cut before its last store: the new head is of the second
+/// edition, which the old one does not tell.
+#[test]
+fn switched_cleaning_cut_before_its_last_store() {
+    let mut area = store_of(&FIRST, 1);
+    put(&mut area, 13, &entry_of(&FIRST, 1, 1));
+    put(&mut area, 256, &store_of(&SECOND, 2)[..17]);
+    put(&mut area, 256 + 1, &[2, 0, 0, 0, 2]);
+    put(&mut area, 256 + 9, &[2, 0, 0, 0, 0, 0, 0, 0]);
+    put(&mut area, 256 + 17, &entry_of(&SECOND, 9, 1));
+    area[256] = 0;
+    area[256 + 40] = 0;
+    let report = Report::of(&image(area));
+    let found = report.under_way.expect("accepted");
+    let new_head = &found.findings[1];
+    assert_eq!(new_head.range.most, 17 + 23 + 1);
+    let cleaning = new_head.candidates.iter().find(|one| one.is_switched);
+    let cleaning = cleaning.expect("a cleaning of a switched store");
+    assert_eq!(cleaning.operation, Operation::Clean(SlotMap(1)));
+    assert_eq!(cleaning.total, Some(17 + 23 + 2));
 }
 
 /// All stores of a write of the second edition but the last.

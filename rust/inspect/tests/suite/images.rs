@@ -150,7 +150,7 @@ fn whole_images() {
 
 #[test]
 fn damaged_images() {
-    let mut rng = Rng::new(2);
+    let mut rng = Rng::new(5);
     let mut met = [0; 64];
     for _ in 0..300 {
         let mut made = any_shape(&mut rng).make(&mut rng);
@@ -200,6 +200,7 @@ fn too_many_keys() {
             slots: 32,
             slot_bytes: 2048,
             layout: &FIRST,
+            older_slots: false,
             keys: 200_000,
             versions: reference::testing::images::Versions::InARow,
             values: vec![0, 0, 0, 8],

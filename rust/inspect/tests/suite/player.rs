@@ -8,8 +8,8 @@ use reference::book::Operation;
 use reference::rng::Rng;
 use reference::testing::{calls, full};
 use reference::{
-    clean, delete, format, read, read_value, recover, step, write, Edition, Key, Pending, Record,
-    Store, Tables,
+    clean, delete, format, read, read_value, recover, step, switch, write, Edition, Key, Pending,
+    Record, Store, Tables,
 };
 
 /// An operation that was accepted, and the store as it was before.
@@ -42,6 +42,8 @@ pub struct Player {
     original: Vec<u8>,
     /// Whether values are small numbers, which read as versions and keys.
     is_small: bool,
+    /// Whether the store is switched sooner or later.
+    is_switched: bool,
     /// Whether a write or delete was cut short since the next version became it.
     pub cut_since_version: bool,
     /// Whether a new head was cut short since the head was made.
@@ -97,6 +99,7 @@ impl Player {
         let keys = keys.collect();
         let (record, index) = recovered(&image);
         let clean_rarity = *rng.pick(&[3, 6, 20]);
+        let is_switched = rng.one_in(2);
         Player {
             rng,
             image,
@@ -106,6 +109,7 @@ impl Player {
             clean_rarity,
             original,
             is_small,
+            is_switched,
             cut_since_version: false,
             cut_since_head: false,
         }
@@ -137,7 +141,7 @@ impl Player {
                 let held = |offset: usize, width: usize, number: u64| {
                     holds(&self.original, at + offset, width, number)
                 };
-                let (next, width) = (self.record.next.0, self.version_bytes());
+                let (next, width) = (self.record.next.0, 4);
                 held(1, 4, u64::from(self.record.digest.0) + 1)
                     || held(9, width, next)
                     || held(9, width, next.wrapping_add(1))
@@ -171,6 +175,11 @@ impl Player {
 
     /// A random operation that the store accepts.
     pub fn any_operation(&mut self) -> Option<Under> {
+        if self.is_switched && self.rng.one_in(3) {
+            let (switched, answer) = switch(self.record);
+            answer.unwrap();
+            self.record = switched;
+        }
         let record = self.record;
         let mut operation = calls::operation(&mut self.rng, &self.keys, record, self.clean_rarity);
         if let (Operation::Write(_, value), true) = (&mut operation, self.is_small) {

@@ -70,7 +70,7 @@ fn layout_of(genuine: Record) -> &'static Layout {
 pub fn record(rng: &mut Rng, genuine: Record) -> Record {
     let mut record = genuine;
     for _ in 0..rng.below(4) {
-        match rng.below(11) {
+        match rng.below(12) {
             0 => record.head = number(rng, record.slots),
             1 => record.end = number(rng, record.slot_bytes),
             2 => record.digest = DigestNumber(number(rng, u32::MAX)),
@@ -81,6 +81,7 @@ pub fn record(rng: &mut Rng, genuine: Record) -> Record {
             7 => record.slot_bytes = number(rng, 2049),
             8 => record.present_bytes[rng.below(32) as usize] = number(rng, record.slot_bytes),
             9 => record.edition = edition(rng),
+            10 => record.switched = !record.switched,
             _ => record.cells = number(rng, 4097),
         }
     }
@@ -126,7 +127,8 @@ pub fn out_of_range(rng: &mut Rng, genuine: Record) -> Record {
         8 => record.next = *rng.pick(no_next(genuine)),
         9 => record.keys = *rng.pick(&[genuine.cells, u32::MAX]),
         14 => {
-            let above = *rng.pick(&[genuine.slot_bytes - digest + 1, u32::MAX]);
+            let most = genuine.slot_bytes - FIRST.digest_bytes() as u32;
+            let above = *rng.pick(&[most + 1, u32::MAX]);
             record.present_bytes[rng.below(32) as usize] = above;
         }
         15 => record.edition = no_edition(rng),

@@ -2,7 +2,7 @@
 
 use crate::edition::{Edition, Layout, FIRST, MAP, NEXT, NUMBER, SECOND, VERSION};
 use crate::rng::Rng;
-use crate::Key;
+use crate::{Key, Version};
 
 /// How an image's versions are chosen.
 #[derive(Clone, Copy, PartialEq, Eq, Debug)]
@@ -21,7 +21,7 @@ pub struct Image {
     pub slots: u32,
     /// S.
     pub slot_bytes: u32,
-    /// Kinds and sizes of its edition.
+    /// Kinds and sizes of the head's edition.
     pub layout: &'static Layout,
     /// The bytes.
     pub area: Vec<u8>,
@@ -37,8 +37,10 @@ pub struct Shape {
     pub slots: u32,
     /// S.
     pub slot_bytes: u32,
-    /// Kinds and sizes of its edition.
+    /// Kinds and sizes of the head's edition.
     pub layout: &'static Layout,
+    /// Whether other slots are of the first edition as often as not, which only a head of the second allows.
+    pub older_slots: bool,
     /// How many keys the entries are of, at the most.
     pub keys: u32,
     /// How the versions are chosen.
@@ -67,6 +69,7 @@ impl Shape {
         let layout = layout_of(edition);
         Shape {
             layout,
+            older_slots: edition == Edition::SECOND && rng.one_in(3),
             slots: *rng.pick(&[4, 4, 5, 7, 16, 31, 32]),
             slot_bytes: match rng.below(4) {
                 0 => 256,
@@ -131,21 +134,26 @@ impl Shape {
         for (number, &slot) in order.iter().enumerate() {
             let start = usize::from(slot) * self.slot_bytes as usize;
             let in_log = map >> slot & 1 == 1;
-            let kind = self.layout.digest;
+            let layout = match self.older_slots && slot != head && rng.one_in(2) {
+                true => &FIRST,
+                false => self.layout,
+            };
+            let kind = layout.digest;
             image.area[start] = if in_log || rng.one_in(2) { kind } else { 0 };
             let number = if slot == head { 100 } else { number as u32 };
-            let next = u64::from(rng.within(1, 9000));
-            let digest = &mut image.area[start..start + self.layout.digest_bytes()];
+            let next = Version(u64::from(rng.within(1, 9000)));
+            let digest = &mut image.area[start..start + layout.digest_bytes()];
             digest[NUMBER..MAP].copy_from_slice(&number.to_le_bytes());
             digest[MAP..NEXT].copy_from_slice(&map.to_le_bytes());
-            self.lay_version(&mut digest[NEXT..], next);
+            layout.lay_version(next, &mut digest[NEXT..]);
         }
     }
 
     fn lay_entries(&self, rng: &mut Rng, image: &mut Image, slot: u32) {
         let start = (slot * self.slot_bytes) as usize;
         let end = start + self.slot_bytes as usize;
-        let mut at = start + self.layout.digest_bytes();
+        let layout = image.layout_at(start);
+        let mut at = start + layout.digest_bytes();
         let stop = if self.full {
             end
         } else {
@@ -153,15 +161,12 @@ impl Shape {
         };
         loop {
             let value = *rng.pick(&self.values);
-            let length = self.layout.tombstone_bytes() + value;
+            let length = layout.tombstone_bytes() + value;
             if at + length > end.min(stop) {
                 break;
             }
             let key = rng.below(self.keys);
-            image.area[at] = self
-                .layout
-                .object_kind(value)
-                .unwrap_or(self.layout.tombstone);
+            image.area[at] = layout.entry_kind(value);
             image.area[at + 1..at + 3].copy_from_slice(&(key as u16 % 3).to_le_bytes());
             image.area[at + 3..at + 7].copy_from_slice(&(key / 3).to_le_bytes());
             image.entries.push(at);
@@ -179,20 +184,20 @@ impl Shape {
                 ranks.swap(last, rng.below(last as u32 + 1) as usize);
             }
         }
-        for (&at, rank) in image.entries.iter().zip(ranks) {
+        for (at, rank) in image.entries.clone().into_iter().zip(ranks) {
+            let layout = image.layout_at(at);
             let rank = u64::from(rank);
             let version = match self.versions {
                 Versions::InARow => rank + 1,
-                Versions::Random => 1 + rng.bits() % self.layout.last_version().0,
+                Versions::Random => 1 + rng.bits() % layout.last_version().0,
+                // A stride that leaves low halves the same is too long for an older slot.
+                Versions::Stride(stride) if layout.edition == Edition::FIRST => {
+                    rank * stride.min(65536) + 1
+                }
                 Versions::Stride(stride) => rank * stride + 1,
             };
-            self.lay_version(&mut image.area[at + VERSION..], version);
+            image.lay_version(at, Version(version));
         }
-    }
-
-    fn lay_version(&self, out: &mut [u8], version: u64) {
-        let stored = &version.to_le_bytes()[..self.layout.version_bytes];
-        out[..stored.len()].copy_from_slice(stored);
     }
 }
 
@@ -202,6 +207,7 @@ impl Image {
         let layout = layout_of(edition);
         let shape = Shape {
             layout,
+            older_slots: edition == Edition::SECOND && rng.one_in(3),
             slots: 32,
             slot_bytes: rng.within(1900, 2048),
             keys: 3000,
@@ -243,8 +249,25 @@ impl Image {
         }
         let from = *rng.pick(&self.entries);
         let to = *rng.pick(&self.entries);
-        let version = from + VERSION..from + self.layout.tombstone_bytes();
-        self.area.copy_within(version, to + VERSION);
+        let version = self
+            .layout_at(from)
+            .version_in(&self.area[from + VERSION..])
+            .expect("an entry is there");
+        self.lay_version(to, version);
+    }
+
+    /// The layout of the slot that has this place, in the log.
+    fn layout_at(&self, place: usize) -> &'static Layout {
+        let start = place - place % self.slot_bytes as usize;
+        let edition = Edition::of_segment(&self.area[start..]);
+        layout_of(edition.expect("slots of the log have digests"))
+    }
+
+    /// Gives the entry at a place a version, or as much of it as there is room for.
+    fn lay_version(&mut self, place: usize, version: Version) {
+        let layout = self.layout_at(place);
+        let bytes = place + VERSION..place + layout.tombstone_bytes();
+        layout.lay_version(version, &mut self.area[bytes]);
     }
 
     /// Alters a byte where it is likely to matter. A slot may come to begin with a digest of either edition.

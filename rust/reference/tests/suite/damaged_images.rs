@@ -49,7 +49,7 @@ fn check_reads(record: &Record, image: &Image, index: &[u32], view: &View) {
         if line.is_object() {
             let found = found.map(|found| (found.version.0, found.kind));
             assert_eq!(found, Ok((line.version, line.bytes[0])));
-            assert_eq!(value, &line.bytes[view.numbers.tombstone_bytes..]);
+            assert_eq!(value, line.value());
         } else {
             assert_eq!(found, Err(Refusal::Absent));
             assert!(value.is_empty());

@@ -252,7 +252,8 @@ fn expected_versions() {
     assert_eq!(expecting(OTHER, 1 << 32), Err(21));
 }
 
-/// 17 where 13 stood: the end, the present bytes, and what is kept. The edition is 1 or 2, and its limit is the next version's.
+/// 17 where 13 stood for the end and for what is kept; the present bytes may reach S - 13, as in a slot of the first
+/// edition. The edition is 1 or 2, and its limit is the next version's.
 #[test]
 fn records_out_of_range() {
     let mut rig = store(1);
@@ -278,7 +279,7 @@ fn records_out_of_range() {
         assert_eq!(answer(&|record| record.end = end), told, "end {end}");
     }
     for slot in 0..32 {
-        for (bytes, told) in [(239, Ok(())), (240, Err(4)), (243, Err(4))] {
+        for (bytes, told) in [(239, Ok(())), (243, Ok(())), (244, Err(4))] {
             let told_now = answer(&|record| record.present_bytes[slot] = bytes);
             assert_eq!(told_now, told, "{bytes} in slot {slot}");
         }
@@ -472,37 +473,91 @@ fn with(mut area: Vec<u8>, changes: &[(usize, u8)]) -> Vec<u8> {
     area
 }
 
-/// 28 after 17, 24 and 25, and before 18, 19 and 22, whichever edition the head is of.
+/// An entry of the first edition.
+fn older(kind: u8, key: Key, version: u32, value: usize) -> Vec<u8> {
+    let leading = [&[kind][..], &key.stored(), &version.to_le_bytes()].concat();
+    [leading, vec![0; value]].concat()
+}
+
+/// 28 after 17, 24 and 25, and before 18, 19 and 22, and only for a slot of the second edition under a head of the first:
+/// under a head of the second, slots of both are a store on its way over.
 #[test]
 fn log_slots_of_both_editions() {
     for head in [1, 2] {
-        assert_eq!(refused(&mixed(head)), 28);
-        for (cause, changes) in [
-            (17, &[(265, 0)][..]),
-            (17, &[(257, 1)]),
-            (24, &[(261, 0x13)]),
-            (24, &[(261, 1)]),
-            (24, &[(261, 0x0F), (512, 5), (768, 8)]),
-            (25, &[(261, 7)]),
-            (25, &[(261, 7), (13, 1)]),
-            (28, &[(261, 7), (512, 5)]),
-            (28, &[(261, 7), (512, 8)]),
-            (
-                28,
-                &[(13, 255), (17, 255), (256 + 13, 255), (256 + 17, 255)],
-            ),
+        let mixed = || mixed(head);
+        for (first, second, changes) in [
+            (28, 0, &[][..]),
+            (17, 17, &[(265, 0)]),
+            (17, 17, &[(257, 1)]),
+            (24, 24, &[(261, 0x13)]),
+            (24, 24, &[(261, 1)]),
+            (24, 24, &[(261, 0x0F), (512, 5), (768, 8)]),
+            (25, 25, &[(261, 7)]),
+            (25, 25, &[(261, 7), (13, 1)]),
+            (28, 0, &[(261, 7), (512, 5)]),
+            (28, 0, &[(261, 7), (512, 8)]),
+            (28, 18, &[(13, 255), (17, 255)]),
+            (28, 18, &[(256 + 13, 255), (256 + 17, 255)]),
         ] {
-            assert_eq!(refused(&with(mixed(head), changes)), cause, "{changes:?}");
+            let area = with(mixed(), changes);
+            match [first, second][head as usize - 1] {
+                0 => assert_eq!(recovered(&area).map(|record| record.edition.0), Ok(2)),
+                cause => assert_eq!(refused(&area), cause, "{changes:?}"),
+            }
         }
         // A free slot of the other edition does not matter.
-        let free = with(mixed(head), &[(261, 2)]);
+        let free = with(mixed(), &[(261, 2)]);
         assert_eq!(recovered(&free).map(|record| record.edition.0), Ok(head));
     }
-    // Equal versions in slots of both editions are told of after 28.
-    let entry = [vec![1, 7, 0, 9, 0, 0, 0, 5, 0, 0, 0], vec![0; 8]].concat();
-    let first = [digest(1, 1, 3, 1), entry];
-    let area = slots([&first, &[digest(2, 2, 3, 1), object(OTHER, 5)], &[], &[]]);
-    assert_eq!(refused(&area), 28);
+    // Versions are compared over slots of both editions.
+    let both = |version| {
+        let first = [digest(1, 1, 3, 1), older(1, KEY, 5, 8)];
+        let second = [digest(2, 2, 3, 1), object(OTHER, version)];
+        slots([&first, &second, &[], &[]])
+    };
+    assert_eq!(refused(&both(5)), 19);
+    for version in [4, 6, 1 << 32 | 5] {
+        assert_eq!(recovered(&both(version)).map(|_| ()), Ok(()));
+    }
+}
+
+/// Each slot is read by its own edition's kinds and limits, and a key's newest entry is found over both.
+#[test]
+fn slots_read_by_their_own_edition() {
+    let with = |older: Vec<u8>, newer: Vec<u8>| {
+        let head = [digest(2, 2, 3, 1), newer];
+        slots([&[digest(1, 1, 3, 1), older], &head, &[], &[]])
+    };
+    for kind in 0..=255 {
+        let first = with(older(kind, OTHER, 1, 120), object(KEY, 7));
+        let accepted = [0, 1, 2, 3, 4, 7].contains(&kind);
+        assert_eq!(recovered(&first).is_ok(), accepted, "{kind} in the first");
+        let entry = [leading(kind, OTHER, 1), vec![0; 120]].concat();
+        let second = with(older(1, KEY, 7, 8), entry);
+        let accepted = kind == 0 || (9..=13).contains(&kind);
+        assert_eq!(recovered(&second).is_ok(), accepted, "{kind} in the second");
+    }
+    for (version, cause) in [(u32::MAX, Err(18)), (u32::MAX - 1, Ok(SPENT[0]))] {
+        let area = with(older(4, OTHER, version, 0), object(KEY, 1));
+        assert_eq!(recovered(&area).map(|record| record.next.0), cause);
+    }
+    for order in [ORDER, [1, 0, 3, 2]] {
+        let newer = with(older(1, KEY, 5, 8), object(KEY, 1 << 32));
+        assert_eq!(version(&newer, order), Ok(1 << 32));
+        let older_wins = with(older(2, KEY, 5, 24), object(KEY, 4));
+        assert_eq!(version(&older_wins, order), Ok(5));
+        let deleted = with(older(3, KEY, 5, 56), tombstone(KEY, 6));
+        assert_eq!(version(&deleted, order), Err(8));
+        let deleted_before = with(older(4, KEY, 6, 0), object(KEY, 5));
+        assert_eq!(version(&deleted_before, order), Err(8));
+    }
+    // Present bytes are those that an object takes in its own slot.
+    let area = with(
+        [older(7, KEY, 5, 120), older(1, OTHER, 3, 8)].concat(),
+        object(OTHER, 9),
+    );
+    let record = recovered(&area).unwrap();
+    assert_eq!(record.present_bytes[..2], [131, 23]);
 }
 
 /// Wrong readings of these rules tell something else of an image.
@@ -526,7 +581,7 @@ fn wrong_readings() {
     }
     let second = slots([&[digest(2, 1, 1, 1)], &[], &[], &[]]);
     let shared = slots([&[digest(1, 3, 1, 1)], &[digest(2, 3, 2, 1)], &[], &[]]);
-    let damaged = with(mixed(2), &[(13, 255), (17, 255)]);
+    let damaged = with(mixed(1), &[(13, 255), (17, 255)]);
     let same = [&second, &shared, &damaged].map(|area| {
         let right = told::<AsWritten>(area);
         [
@@ -570,6 +625,8 @@ fn dumped() {
                     65535 2 18446744073709551612 10\n\
                     65535 3 18446744073709551611 9\n";
     assert_eq!(dump(&input), expected);
-    let input = [&[4, 0, 1][..], &mixed(2)].concat();
-    assert_eq!(dump(&input), "refused 28\n");
+    for (head, told) in [(1, "refused 28\n"), (2, "next 1 digest 2 keys 0\n")] {
+        let input = [&[4, 0, 1][..], &mixed(head)].concat();
+        assert_eq!(dump(&input), told);
+    }
 }

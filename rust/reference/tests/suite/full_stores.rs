@@ -163,6 +163,7 @@ fn explore_from(mut rig: Rig<AsWritten>) {
             Choice::CleanHead,
         ],
         histories: 0,
+        switches: false,
     };
     if let Err((history, fault)) = explorer.explore(&rig, 3, false) {
         panic!("{fault} after\n{history}");

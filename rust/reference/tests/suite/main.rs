@@ -22,3 +22,4 @@ mod scanning;
 mod short_histories;
 mod stored_images;
 mod stored_output;
+mod switching;

@@ -46,7 +46,7 @@ pub const EDITIONS: [Numbers; 2] = [
 
 impl Numbers {
     /// Those of the segment that begins with this byte, if it is a digest's.
-    fn of_digest(kind: u8) -> Option<Numbers> {
+    pub fn of_digest(kind: u8) -> Option<Numbers> {
         EDITIONS.into_iter().find(|numbers| numbers.digest == kind)
     }
 
@@ -78,6 +78,8 @@ impl Numbers {
 /// An entry of the log.
 #[derive(Clone, PartialEq, Eq, Debug)]
 pub struct Line {
+    /// Those of its edition.
+    pub numbers: Numbers,
     pub slot: u32,
     pub place: usize,
     pub key: Key,
@@ -89,13 +91,35 @@ impl Line {
     pub fn is_object(&self) -> bool {
         ![4, 13].contains(&self.bytes[0])
     }
+
+    pub fn value(&self) -> &[u8] {
+        &self.bytes[self.numbers.tombstone_bytes..]
+    }
+
+    /// Its bytes in an edition.
+    fn rewritten(&self, numbers: Numbers) -> Vec<u8> {
+        entry(numbers, self.key, self.version, self.value())
+    }
+}
+
+/// The bytes of an entry; without a value it is a tombstone.
+fn entry(numbers: Numbers, key: Key, version: u64, value: &[u8]) -> Vec<u8> {
+    let mut bytes = vec![numbers.object(value.len()).unwrap_or(numbers.tombstone)];
+    bytes.extend(key.table.to_le_bytes());
+    bytes.extend(key.key.to_le_bytes());
+    bytes.extend(numbers.stored_version(version));
+    bytes.extend(value);
+    bytes
 }
 
 /// All that recovery finds in an area.
 #[derive(Clone, PartialEq, Eq, Debug)]
 pub struct View {
     pub record: Record,
-    pub numbers: Numbers,
+    /// Those of the head's edition.
+    pub head: Numbers,
+    /// Those of the edition of a new head.
+    pub new_head: Numbers,
     /// Ascending slot, then offset.
     pub lines: Vec<Line>,
 }
@@ -117,15 +141,11 @@ fn number(bytes: &[u8], at: usize, width: usize) -> u32 {
     wide_number(bytes, at, width) as u32
 }
 
-/// The entries of one slot and where they end, or 18.
-fn lines_of(
-    numbers: Numbers,
-    area: &[u8],
-    slot_bytes: u32,
-    slot: u32,
-) -> Result<(Vec<Line>, u32), u32> {
+/// The entries of one slot, which has a digest, and where they end, or 18.
+fn lines_of(area: &[u8], slot_bytes: u32, slot: u32) -> Result<(Vec<Line>, u32), u32> {
     let start = (slot * slot_bytes) as usize;
     let segment = &area[start..start + slot_bytes as usize];
+    let numbers = Numbers::of_digest(segment[0]).expect("a digest");
     let mut lines = Vec::new();
     let mut at = numbers.digest_bytes;
     while at < segment.len() && segment[at] != 0 {
@@ -138,6 +158,7 @@ fn lines_of(
             return Err(18);
         }
         lines.push(Line {
+            numbers,
             slot,
             place: start + at,
             key: Key {
@@ -180,7 +201,7 @@ fn head_of(slots: u32, slot_bytes: u32, area: &[u8]) -> Result<(u32, Numbers), u
     if (0..slots).any(|slot| in_map(slot) && !has_digest(slot)) {
         return Err(25);
     }
-    if (0..slots).any(|slot| in_map(slot) && byte_0(slot) != own.digest) {
+    if own.edition == 1 && (0..slots).any(|slot| in_map(slot) && byte_0(slot) == 8) {
         return Err(28);
     }
     Ok((head, own))
@@ -201,7 +222,7 @@ pub fn log(slots: u32, slot_bytes: u32, area: &[u8]) -> Result<Log, u32> {
     let map = number(area, (head * slot_bytes) as usize + 5, 4);
     let mut lines = Vec::new();
     for slot in (0..slots).filter(|slot| map >> slot & 1 == 1) {
-        lines.extend(lines_of(numbers, area, slot_bytes, slot)?.0);
+        lines.extend(lines_of(area, slot_bytes, slot)?.0);
     }
     let versions: BTreeSet<u64> = lines.iter().map(|line| line.version).collect();
     if versions.len() != lines.len() {
@@ -222,19 +243,15 @@ pub fn scan(
     tables: (u16, u16),
     key: Key,
 ) -> Result<(u64, u8, usize, usize), u32> {
-    let Log {
-        numbers, mut lines, ..
-    } = log(slots, slot_bytes, area)?;
+    let Log { mut lines, .. } = log(slots, slot_bytes, area)?;
     if key.table < tables.0 || key.table > tables.1 {
         return Err(22);
     }
     lines.retain(|line| line.key == key);
     lines.sort_by_key(|line| line.version);
     let newest = lines.last().filter(|line| line.is_object()).ok_or(8u32)?;
-    let before = numbers.tombstone_bytes;
-    let value = newest.bytes.len() - before;
-    let (kind, place) = (newest.bytes[0], newest.place + before);
-    Ok((newest.version, kind, place, value))
+    let place = newest.place + newest.numbers.tombstone_bytes;
+    Ok((newest.version, newest.bytes[0], place, newest.value().len()))
 }
 
 /// What a conversion must leave in a second buffer of so many bytes.
@@ -247,6 +264,12 @@ pub fn convert(
     check_geometry(slots, slot_bytes, source)?;
     if target_bytes != source.len() {
         return Err(1);
+    }
+    let (head, _) = head_of(slots, slot_bytes, source)?;
+    let byte_0 = |slot: u32| source[(slot * slot_bytes) as usize];
+    let map = number(source, (head * slot_bytes) as usize + 5, 4);
+    if (0..slots).any(|slot| map >> slot & 1 == 1 && byte_0(slot) != byte_0(head)) {
+        return Err(28);
     }
     let log = log(slots, slot_bytes, source)?;
     let other = EDITIONS[2 - log.numbers.edition as usize];
@@ -261,7 +284,7 @@ pub fn convert(
         bytes.extend(&digest[1..9]);
         bytes.extend(other.stored_version(next));
         for line in log.lines.iter().filter(|line| line.slot == slot) {
-            bytes.extend(rewritten(line, log.numbers, other));
+            bytes.extend(line.rewritten(other));
         }
     }
     let room = slot_bytes as usize;
@@ -275,17 +298,6 @@ pub fn convert(
         bytes.resize(room, 0);
     }
     Ok(segments.concat())
-}
-
-/// The bytes of an entry in the other edition.
-fn rewritten(line: &Line, own: Numbers, other: Numbers) -> Vec<u8> {
-    let value = &line.bytes[own.tombstone_bytes..];
-    let kind = match line.is_object() {
-        true => other.object(value.len()).expect("a value"),
-        false => other.tombstone,
-    };
-    let version = other.stored_version(line.version);
-    [&[kind], &line.bytes[1..7], &version, value].concat()
 }
 
 /// Refuses N, S or an area of another length with 1.
@@ -334,7 +346,7 @@ pub fn view(
     let mut lines = Vec::new();
     let mut end = 0;
     for slot in (0..slots).filter(|&slot| map.0 >> slot & 1 == 1) {
-        let (found, stop) = lines_of(numbers, area, slot_bytes, slot)?;
+        let (found, stop) = lines_of(area, slot_bytes, slot)?;
         lines.extend(found);
         if slot == head {
             end = stop;
@@ -358,6 +370,7 @@ pub fn view(
         digest: DigestNumber(number(digest, 1, 4)),
         map,
         edition: Edition(numbers.edition),
+        switched: false,
         next: Version(after.max(wide_number(digest, 9, numbers.version_bytes))),
         keys: keys.len() as u32,
         pending: Pending::None,
@@ -365,7 +378,8 @@ pub fn view(
     };
     let mut view = View {
         record,
-        numbers,
+        head: numbers,
+        new_head: numbers,
         lines,
     };
     view.record.present_bytes = view.present_bytes();
@@ -373,6 +387,15 @@ pub fn view(
 }
 
 impl View {
+    /// The same store once it is switched, if it is.
+    pub fn switched(mut self, switched: bool) -> View {
+        self.record.switched = switched;
+        if switched {
+            self.new_head = EDITIONS[1];
+        }
+        self
+    }
+
     /// The highest-version entry of each key.
     pub fn newest(&self) -> BTreeMap<Key, &Line> {
         let mut newest: BTreeMap<Key, &Line> = BTreeMap::new();
@@ -404,15 +427,6 @@ impl View {
         slots[0].1
     }
 
-    fn entry(&self, kind: u8, key: Key, value: &[u8]) -> Vec<u8> {
-        let mut bytes = vec![kind];
-        bytes.extend(key.table.to_le_bytes());
-        bytes.extend(key.key.to_le_bytes());
-        bytes.extend(self.numbers.stored_version(self.record.next.0));
-        bytes.extend(value);
-        bytes
-    }
-
     fn free(&self) -> Vec<u32> {
         (0..self.record.slots)
             .filter(|&slot| self.record.map.0 >> slot & 1 == 0)
@@ -430,58 +444,66 @@ impl View {
     }
 
     fn plan_write(&self, key: Key, expected: Option<Version>, value: &[u8]) -> Result<Plan, u32> {
-        let kind = self.numbers.object(value.len()).ok_or(7u32)?;
+        if self.new_head.object(value.len()).is_none() {
+            return Err(7);
+        }
         let newest = self.newest();
         let object = newest.get(&key).filter(|line| line.is_object());
         let version = object.map_or(0, |line| line.version);
         if expected.is_some_and(|expected| expected.0 != version) {
             return Err(21);
         }
-        if self.record.next.0 == self.numbers.last_next {
+        if self.record.next.0 == self.new_head.last_next {
             return Err(9);
         }
         if !newest.contains_key(&key) && newest.len() as u32 == self.record.cells - 1 {
             return Err(11);
         }
-        self.plan_entry(self.entry(kind, key, value))
+        self.plan_entry(key, value)
     }
 
     fn plan_delete(&self, key: Key) -> Result<Plan, u32> {
         if !self.newest().get(&key).is_some_and(|line| line.is_object()) {
             return Err(8);
         }
-        if self.record.next.0 == self.numbers.last_next {
+        if self.record.next.0 == self.new_head.last_next {
             return Err(9);
         }
-        match self.plan_entry(self.entry(self.numbers.tombstone, key, &[])) {
+        match self.plan_entry(key, &[]) {
             Err(12) => self.plan_forget(key),
             plan => plan,
         }
     }
 
     /// A delete without room: the slot of the live object is cleaned as if the key's tombstone of
-    /// the next version stood where that object stands.
+    /// the next version stood where that object stands; 12 where what is kept does not fit.
     fn plan_forget(&self, key: Key) -> Result<Plan, u32> {
         let live = self.newest()[&key].place;
         let mut after = self.clone();
         let line = after.lines.iter_mut().find(|line| line.place == live);
         let line = line.expect("the live object is in the log");
         line.version = self.record.next.0;
-        line.bytes = self.entry(self.numbers.tombstone, key, &[]);
+        line.numbers = self.new_head;
+        line.bytes = entry(self.new_head, key, line.version, &[]);
         let victim = line.slot;
         after.record.next.0 += 1;
-        after.plan_clean(1 << victim)
+        after
+            .plan_clean(1 << victim)
+            .map_err(|cause| if cause == 14 { 12 } else { cause })
     }
 
-    fn plan_entry(&self, entry: Vec<u8>) -> Result<Plan, u32> {
+    fn plan_entry(&self, key: Key, value: &[u8]) -> Result<Plan, u32> {
+        let next = self.record.next.0;
+        let new = entry(self.new_head, key, next, value);
+        if next == self.head.last_next {
+            return self.plan_lone_entry(new);
+        }
+        let entry = entry(self.head, key, next, value);
         let slot_end = ((self.record.head + 1) * self.record.slot_bytes) as usize;
         let start = (self.record.head * self.record.slot_bytes + self.record.end) as usize;
         let end = start + entry.len();
         if end > slot_end {
-            if self.free().len() < 2 {
-                return Err(12);
-            }
-            return self.plan_new_head(0, entry);
+            return self.plan_lone_entry(new);
         }
         let mut stores: Vec<(usize, u8)> = (1..entry.len())
             .map(|place| (start + place, entry[place]))
@@ -496,18 +518,26 @@ impl View {
         })
     }
 
+    /// A new head for an entry.
+    fn plan_lone_entry(&self, entry: Vec<u8>) -> Result<Plan, u32> {
+        if self.free().len() < 2 {
+            return Err(12);
+        }
+        self.plan_new_head(0, entry)
+    }
+
     fn plan_clean(&self, victims: u32) -> Result<Plan, u32> {
         if victims == 0 || victims & !self.record.map.0 != 0 {
             return Err(13);
         }
         let kept = self.kept(victims);
-        if self.numbers.digest_bytes + kept.len() > self.record.slot_bytes as usize {
+        if self.new_head.digest_bytes + kept.len() > self.record.slot_bytes as usize {
             return Err(14);
         }
         self.plan_new_head(victims, kept)
     }
 
-    /// The bytes that a cleaning keeps.
+    /// The bytes that a cleaning keeps, as they stand in the new head.
     fn kept(&self, victims: u32) -> Vec<u8> {
         let is_victim = |line: &Line| victims >> line.slot & 1 == 1;
         let newest = self.newest();
@@ -520,7 +550,7 @@ impl View {
                         other.key == line.key && other.is_object() && !is_victim(other)
                     })
             })
-            .flat_map(|line| line.bytes.clone())
+            .flat_map(|line| line.rewritten(self.new_head))
             .collect()
     }
 
@@ -532,7 +562,7 @@ impl View {
             .iter()
             .flat_map(|&i| slots.iter().map(move |&j| (i, j)))
             .filter(|(i, j)| i < j);
-        let room = self.record.slot_bytes as usize - self.numbers.digest_bytes;
+        let room = self.record.slot_bytes as usize - self.new_head.digest_bytes;
         let mut fitting = pairs.filter(|(i, j)| self.kept(1 << i | 1 << j).len() <= room);
         fitting.next().ok_or(23)
     }
@@ -547,10 +577,10 @@ impl View {
             .find(|&&slot| slot > self.record.head)
             .unwrap_or(&free[0]);
         let map = self.record.map.0 & !victims | 1 << slot;
-        let mut work = vec![self.numbers.digest];
+        let mut work = vec![self.new_head.digest];
         work.extend((self.record.digest.0 + 1).to_le_bytes());
         work.extend(map.to_le_bytes());
-        work.extend(self.numbers.stored_version(self.record.next.0));
+        work.extend(self.new_head.stored_version(self.record.next.0));
         work.extend(entries);
         let start = (slot * self.record.slot_bytes) as usize;
         let mut stores = vec![(start, 0)];

@@ -7,8 +7,8 @@ use reference::rules::AsWritten;
 use reference::testing::calls::Given;
 use reference::testing::{calls, forged, full};
 use reference::{
-    clean, delete, fewest, format, join, read, step, write, write_expecting, Edition, Pending,
-    Refusal, SlotMap, Version,
+    clean, delete, fewest, format, join, read, step, switch, write, write_expecting, Edition,
+    Pending, Refusal, SlotMap, Version,
 };
 
 use crate::rig::{same, Fault, Rig};
@@ -22,6 +22,8 @@ struct Tally {
     forgotten: u32,
     /// Writes that met 12 and were accepted after a join.
     joined: u32,
+    /// Starts on a store with slots of both editions.
+    mixed: u32,
     cuts: u32,
 }
 
@@ -40,6 +42,8 @@ struct Player {
     tally: Tally,
     /// One action in so many is a cleaning.
     clean_rarity: u32,
+    /// Whether the store may be switched.
+    switches: bool,
 }
 
 impl Player {
@@ -73,11 +77,13 @@ impl Player {
         rig.strict = true;
         rig.must_recover(&rng.order(slots)).unwrap();
         let clean_rarity = *rng.pick(&[4, 8, 30]);
+        let switches = rng.one_in(2);
         Player {
             rng,
             rig,
             tally: Tally::default(),
             clean_rarity,
+            switches,
         }
     }
 
@@ -112,6 +118,7 @@ impl Player {
             2 | 3 => self.recover()?,
             4 if self.rng.one_in(2) => self.join().map(|_| ())?,
             4 => self.misuse()?,
+            5 if self.switches => self.switch()?,
             5 => self.start()?,
             6 | 7 => self.few_steps()?,
             8 | 9 => {
@@ -140,10 +147,25 @@ impl Player {
         let given = Given::random(rng, &operation, record, |key| book.version(key), whole);
         let answer = self.rig.start_with(&operation, given)?;
         self.tally.count(answer);
+        let mixed = self.rig.record().edition == Edition::SECOND && self.has_old_slots();
+        self.tally.mixed += u32::from(mixed);
         let forget = matches!(self.rig.record().pending, Pending::Forget { .. });
         self.tally.forgotten += u32::from(answer.is_ok() && forget);
-        if answer == Err(Refusal::SlotsFull) && self.rng.one_in(6) {
+        let is_write = matches!(operation, Operation::Write(..));
+        if is_write && answer == Err(Refusal::SlotsFull) && self.rng.one_in(6) {
             self.join_and_write(&operation, given)?;
+        }
+        Ok(())
+    }
+
+    fn has_old_slots(&self) -> bool {
+        let byte_0 = |slot: u32| self.rig.area[(slot * self.rig.slot_bytes) as usize];
+        self.rig.record().map.slots().any(|slot| byte_0(slot) == 5)
+    }
+
+    fn switch(&mut self) -> Result<(), Fault> {
+        if let Err(refusal) = self.rig.switch()? {
+            self.tally.refused[refusal.number() as usize] += 1;
         }
         Ok(())
     }
@@ -253,6 +275,18 @@ impl Player {
         same!("misused read", found, Err(Refusal::Record));
         let told = fewest(&record);
         same!("fewest of misuse", told.is_err(), lent == 0);
+        let (switched, answer) = switch(record);
+        let owed = match (lent, genuine.pending) {
+            (0, _) => Err(Refusal::Record),
+            (_, Pending::None) => Ok(()),
+            _ => Err(Refusal::Pending),
+        };
+        same!("switch of misuse", answer, owed);
+        same!(
+            "record of a refused switch",
+            answer.is_ok() || switched == record,
+            true
+        );
         let joined = join(&record, &area, &index);
         same!("misused join", joined, Err(Refusal::Record));
         same!("work buffer of misuse", work, self.rig.work);
@@ -295,6 +329,7 @@ fn play_all(seeds: std::ops::Range<u64>, actions: u32) {
         total.operations += player.tally.operations;
         total.forgotten += player.tally.forgotten;
         total.joined += player.tally.joined;
+        total.mixed += player.tally.mixed;
         total.cuts += player.tally.cuts;
         for (sum, count) in total.refused.iter_mut().zip(player.tally.refused) {
             *sum += count;
@@ -304,8 +339,10 @@ fn play_all(seeds: std::ops::Range<u64>, actions: u32) {
         "{} operations, {} of them deletes on a full store, {} joins, {} cuts, refused {:?}",
         total.operations, total.forgotten, total.joined, total.cuts, total.refused
     );
+    println!("{} starts on slots of both editions", total.mixed);
     assert!(total.forgotten > 500, "{}", total.forgotten);
     assert!(total.joined > 100, "{}", total.joined);
+    assert!(total.mixed > 500, "{}", total.mixed);
     for cause in (2..=15).chain(20..=23) {
         assert!(total.refused[cause] > 0, "{:?}", total.refused);
     }

@@ -11,6 +11,7 @@ use reference::operations::{delete_by, write_by};
 use reference::recovery::recover_by;
 use reference::rules::Rules;
 use reference::step::step_by;
+use reference::switching::switch_by;
 use reference::testing::calls::Given;
 use reference::testing::full;
 use reference::{
@@ -18,7 +19,7 @@ use reference::{
     Pending, Progress, Record, Refusal, Started, Tables,
 };
 
-use crate::naive::{view, Plan, View, EDITIONS};
+use crate::naive::{view, Numbers, Plan, View};
 
 /// A check that failed.
 pub type Fault = String;
@@ -193,7 +194,8 @@ impl<R: Rules> Rig<R> {
         if before.pending != Pending::None {
             return Ok(Err(5));
         }
-        Ok(self.view()?.plan(operation, given.expected))
+        let view = self.view()?.switched(before.switched);
+        Ok(view.plan(operation, given.expected))
     }
 
     /// An accepted write has the book's version of its key if it expected one; 21 says that the
@@ -258,11 +260,29 @@ impl<R: Rules> Rig<R> {
         let record = self.record();
         let told = join(&record, &self.area, &self.index);
         let expected = match record.pending {
-            Pending::None => self.view()?.join(),
+            Pending::None => self.view()?.switched(record.switched).join(),
             _ => Err(5),
         };
         same!("join", told.map_err(Refusal::number), expected);
         Ok(told)
+    }
+
+    /// Switches the store. The record says so, unless it did or its head is of the second edition.
+    pub fn switch(&mut self) -> Result<Result<(), Refusal>, Fault> {
+        let before = self.record();
+        let (record, answer) = switch_by::<R>(before);
+        self.record = Some(record);
+        let (expected, told) = match before.pending {
+            Pending::None => {
+                let switched = before.switched || before.edition == Edition::FIRST;
+                (Record { switched, ..before }, Ok(()))
+            }
+            _ => (before, Err(Refusal::Pending)),
+        };
+        same!("switch", answer, told);
+        same!("record of a switch", record, expected);
+        self.feed(Event::Switch(answer.is_ok()));
+        Ok(answer)
     }
 
     /// Makes one step and holds its answer to the book.
@@ -308,7 +328,7 @@ impl<R: Rules> Rig<R> {
         same!("byte stored", self.area[place], byte);
         match answer {
             Ok(Progress::Done { .. }) => {
-                let view = self.view()?;
+                let view = self.view()?.switched(before.switched);
                 same!("record of a last step", self.record(), view.record);
                 same!("fewest", fewest(&self.record()), Ok(view.fewest()));
                 self.check_index()
@@ -476,14 +496,20 @@ impl<R: Rules> Rig<R> {
                 same!("value of an absent key", value.len(), 0);
             }
             Some((version, written)) => {
-                let numbers = EDITIONS[record.edition.0 as usize - 1];
-                let kind = numbers.object(written.len()).expect("a value");
-                let found = found.map(|found| (found.version, found.kind));
+                let kind = self.kind_at(value, written.len());
+                let found = found.map(|found| (found.version, Some(found.kind)));
                 same!(format!("read of {key:?}"), found, Ok((*version, kind)));
                 same!("value", value, &written[..]);
             }
         }
         Ok(())
+    }
+
+    /// The kind of an object whose value has so many bytes, in the slot that the value lies in.
+    fn kind_at(&self, value: &[u8], bytes: usize) -> Option<u8> {
+        let place = value.as_ptr() as usize - self.area.as_ptr() as usize;
+        let start = place - place % self.slot_bytes as usize;
+        Numbers::of_digest(self.area[start])?.object(bytes)
     }
 
     /// The history so far, steps counted together.
@@ -535,6 +561,8 @@ fn tell(event: &Event) -> String {
         }
         Event::Step(_) => "step refused".into(),
         Event::Read(key) => format!("read {}/{}", key.table, key.key),
+        Event::Switch(true) => "switch".into(),
+        Event::Switch(false) => "switch refused".into(),
         Event::Recovery(true) => "recovery".into(),
         Event::Recovery(false) => "recovery refused".into(),
         Event::Cut => "cut".into(),

@@ -1,9 +1,10 @@
-//! Every history of up to four operations over two keys, cut after every store.
+//! Every history of up to four operations over two keys, cut after every store; also in a store that is switched anew after
+//! every recovery.
 
 use reference::book::Operation;
 use reference::rules::{AsWritten, Rules};
 use reference::testing::choices::{two_keys, Choice, A, B, ORDERS};
-use reference::Edition;
+use reference::{Edition, Version};
 
 use crate::rig::{Fault, Rig};
 
@@ -46,6 +47,8 @@ pub fn cut_everywhere<R: Rules>(
 pub struct Explorer {
     pub choices: Vec<Choice>,
     pub histories: u64,
+    /// Whether the store is switched after each recovery.
+    pub switches: bool,
 }
 
 impl Explorer {
@@ -68,7 +71,11 @@ impl Explorer {
                     .and_then(|_| next.check_book())
                     .map_err(|fault| (next.history(), fault))?;
             } else {
-                cut_everywhere(&mut next, choice, &ORDERS, |copy| {
+                cut_everywhere(&mut next, choice, &ORDERS, |mut copy| {
+                    if self.switches {
+                        let switched = copy.switch().map_err(|fault| (copy.history(), fault))?;
+                        assert_eq!(switched, Ok(()));
+                    }
                     self.explore(&copy, depth - 1, true)
                 })?;
             }
@@ -85,11 +92,39 @@ fn explore_all(edition: Edition, slot_bytes: u32, fill: u8, bytes: [usize; 2]) {
     let mut explorer = Explorer {
         choices: two_keys(bytes),
         histories: 0,
+        switches: false,
     };
     if let Err((history, fault)) = explorer.explore(&rig, 4, false) {
         panic!("{fault} after\n{history}");
     }
     assert!(explorer.histories > 780);
+}
+
+/// A store of the first edition with so many versions left in it, which has entries in two slots and is switched.
+fn explore_switched(fill: u8, bytes: [usize; 2], versions_left: u64) {
+    let mut area = vec![fill; 1024];
+    let next = u64::from(u32::MAX) - versions_left - 5;
+    reference::format(4, 256, Edition::FIRST, &mut area).unwrap();
+    area[9..13].copy_from_slice(&(next as u32).to_le_bytes());
+    let mut rig = Rig::<AsWritten>::unrecovered(4, 256, 16, area);
+    rig.book.next = Version(next);
+    rig.keys = vec![A, B];
+    rig.must_recover(&ORDERS[0]).unwrap();
+    for (number, key) in [A, B, A, B, A].into_iter().enumerate() {
+        let value = vec![number as u8; 56];
+        rig.run(&Operation::Write(key, value)).unwrap().unwrap();
+    }
+    assert_eq!(rig.record().map.count(), 2);
+    rig.switch().unwrap().unwrap();
+    let mut explorer = Explorer {
+        choices: two_keys(bytes),
+        histories: 0,
+        switches: true,
+    };
+    if let Err((history, fault)) = explorer.explore(&rig, 3, false) {
+        panic!("{fault} after\n{history}");
+    }
+    assert!(explorer.histories > 150);
 }
 
 #[test]
@@ -115,6 +150,18 @@ fn large_and_small_values_over_digest_kinds() {
 #[test]
 fn longest_values_over_their_own_kind() {
     explore_all(Edition::FIRST, 256, 7, [120, 8]);
+}
+
+#[test]
+fn switched_stores() {
+    explore_switched(1, [8, 8], 1 << 20);
+    explore_switched(8, [120, 56], 1 << 20);
+}
+
+#[test]
+fn switched_stores_whose_versions_run_out() {
+    explore_switched(9, [8, 24], 1);
+    explore_switched(13, [56, 120], 0);
 }
 
 /// The second edition over its own kinds, and over the first's.

@@ -10,7 +10,7 @@ digest-size-requires : tie.Need-digest-size-requires
 digest-size-requires c κs = search needs
 
 add-length : tie.Need-add-length
-add-length c = omega (arith, c .digest-size .ensures, width-high (c .before .args .rec .edition), c .before .pre)
+add-length c = omega (arith, c .digest-size .ensures, width-high (c .before .args .into), c .before .pre)
 
 cast-if1 : tie.Need-cast-if1
 cast-if1 c = search needs

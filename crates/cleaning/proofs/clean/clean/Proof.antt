@@ -40,12 +40,15 @@ mark-needed-requires c κs =
     front-shape _ (now (a .area)) (now (a .index)) (a .rec) (a .victims) (now (a .work)) (sym (t .enum-told .given .1) ∙ k .check-victims .ensures)
     _ _ (c .before .split-of .ensures) (length-replicate {A = ℕ} 128 0)
 
+new-edition-requires : tie.Need-new-edition-requires
+new-edition-requires c κs = search needs
+
 slice-aggregate-clean-marked : tie.Need-slice-aggregate-clean-marked
 slice-aggregate-clean-marked c = search needs
 
 clean-marked-requires : tie.Need-clean-marked-requires
 clean-marked-requires c κs =
-    let m = c .before .before .before in
+    let m = c .before .before .before .before in
     let s = m .before .before in
     let t = s .before in
     let k = t .before .before in
@@ -63,13 +66,13 @@ same-length c = search needs
 
 returns-2 : tie.Need-returns-2
 returns-2 c =
-    let m = c .before .before .before .before .before .before in
+    let m = c .before .before .before .before .before .before .before in
     let s = m .before .before in
     let t = s .before in
     let k = t .before .before in
     let a = k .before .before .before .before .args in
     marked-promise _ (now (a .area)) (now (a .index)) (a .rec) (a .victims) (now (a .work)) (sym (t .enum-told .given .1) ∙ k .check-victims .ensures)
-    (bytes (k .before .before .before)) _ _ (s .split-of .ensures) (m .mark-needed .ensures) _ _ (c .before .before .clean-marked .ensures)
+    (bytes (k .before .before .before)) _ _ (s .split-of .ensures) (m .mark-needed .ensures) _ (c .before .before .before .before .before .new-edition .ensures) _ _ (c .before .before .clean-marked .ensures)
 
 pub clean-spec : {M : Type 1} → statement M
 clean-spec =
@@ -82,6 +85,7 @@ clean-spec =
     split-of-requires
     slice-aggregate-mark-needed
     mark-needed-requires
+    new-edition-requires
     slice-aggregate-clean-marked
     clean-marked-requires
     returns

@@ -17,13 +17,13 @@ use Rattle.cleaning.proofs.clean.clean_marked.Tie as tie
 -- what is chosen is what is kept
 same : (c : tie.After-measure)
     → let a = c .before .before .before .before .before .before .args in
-    chosenBytes (a .rec .edition) (now (a .area)) (c .measure .last .1 .1 .1 .1 .0) (a .split)
-    ≡ keptBytes (a .rec .edition) (now (a .area)) (now (a .index)) (now (a .marks)) (a .split)
+    chosenBytes (a .into) (now (a .area)) (c .measure .last .1 .1 .1 .1 .0) (a .split)
+    ≡ keptBytes (a .into) (now (a .area)) (now (a .index)) (now (a .marks)) (a .split)
 same c =
     let s = c .before .before .before .before .before .before in
     let a = s .args in
-    ap (λ (l : List ℕ). chosenBytes (a .rec .edition) (now (a .area)) l (a .split)) (c .measure .ensures .2)
-    ∙ chosen-kept (now (a .area)) (now (a .index)) (now (a .marks)) (a .split) (s .pre .shape .slots) (a .rec .edition)
+    ap (λ (l : List ℕ). chosenBytes (a .into) (now (a .area)) l (a .split)) (c .measure .ensures .2)
+    ∙ chosen-kept (now (a .area)) (now (a .index)) (now (a .marks)) (a .split) (s .pre .shape .slots) (a .into)
 
 slice-aggregate-measure : tie.Need-slice-aggregate-measure
 slice-aggregate-measure c = search needs
@@ -53,8 +53,8 @@ begin-requires c κs =
     let s = m .before .before .before .before .before .before in
     let a = s .args in
     let passed = sym (t .enum-told .given .1) ∙ t .before .before .check-kept .ensures in (
-      ready (s .pre) (now (a .index)) _ (m .measure .ensures .0) passed,
-      room (s .pre) (now (a .index)) _ (m .measure .ensures .0) passed _
+      ready (a .into) (s .pre) (now (a .index)) _ (m .measure .ensures .0) passed,
+      room (a .into) (s .pre) (now (a .index)) _ (m .measure .ensures .0) passed _
           (ap length (m .measure .ensures .2)
           ∙ length-choices (keptTest (now (a .area)) (now (a .index)) (now (a .marks))) _ _ 256 _ _ (length-replicate {A = ℕ} 256 0))
           (same m),
@@ -76,7 +76,7 @@ returns-2 c =
     let m = b .before .before .before .before .before .before .before in
     let a = m .before .before .before .before .before .before .args in
     marked-begun _ _ _ _ _ _ (m .measure .ensures .0) (sym (t .enum-told .given .1) ∙ k .check-kept .ensures)
-    (b .begin .ensures ∙ ap (λ (l : List ℕ). begunWith (a .rec .edition) (a .rec) (a .victims) (now (a .work)) l none) (same m))
+    (b .begin .ensures ∙ ap (λ (l : List ℕ). begunWith (a .into) (a .rec) (a .victims) (now (a .work)) l none) (same m))
 
 pub clean-marked-spec : {M : Type 1} → statement M
 clean-marked-spec =

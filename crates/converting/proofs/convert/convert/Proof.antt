@@ -1,5 +1,5 @@
 -- `converting::convert::convert` meets its contract: a law for each return.
-use mathlib.Core.Bool.{false}
+use mathlib.Core.Bool.{true, false}
 use mathlib.Core.Path.{_≡_, sym, _∙_}
 use lib.ListN.{length}
 use borrow.Author.Needs.{needs}
@@ -44,7 +44,7 @@ enum-known-edition c = search needs
 -- the head that was found
 found : (c : tie.After-edition)
     → let a = c .before .before .before .before .before .before .before .before .before .args in
-    imageOf (viewsOf (a .source .now) (a .s)) (a .n) ≡
+    imageOf true (viewsOf (a .source .now) (a .s)) (a .n) ≡
     Image.Sound (c .edition .given .0 .0) (c .edition .given .0 .1 .0) (c .edition .given .0 .1 .1 .0) (c .edition .given .0 .1 .1 .1 .0)
 found c = sym (c .before .before .look-at .ensures) ∙ c .edition .given .1
 

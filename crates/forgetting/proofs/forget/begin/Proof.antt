@@ -6,6 +6,7 @@ use denote.Ref.{now}
 use borrow.Author.Needs.{needs}
 use Rattle.segment.specs.Layout.{digestSize}
 use Rattle.segment.specs.LayoutLaws.{limit-high}
+use Rattle.record.specs.Switch.{newLayout}
 use Rattle.starting.specs.Stores.{head-most}
 use Rattle.starting.specs.NewHead.{head-ready}
 use Rattle.forgetting.specs.Forgot.{forgotSlot}
@@ -16,8 +17,8 @@ use Rattle.forgetting.proofs.forget.begin.Tie as tie
 -- what comes of the victim fits a segment
 room : (s : tie.Start)
     → let a = s .args in
-    digestSize (a .rec .edition) + length (forgotSlot (a .edition) (a .rec .edition) (now (a .area)) (now (a .index)) (now (a .marks)) (a .live) (a .split .size) (a .slot)) ≤ a .split .size
-room s = fits-room _ _ _ (s .pre .1)
+    digestSize (a .into) + length (forgotSlot (a .edition) (a .into) (now (a .area)) (now (a .index)) (now (a .marks)) (a .live) (a .split .size) (a .slot)) ≤ a .split .size
+room s = fits-room _ _ _ (s .pre .1 .1)
 
 next-free-requires : tie.Need-next-free-requires
 next-free-requires c κs = search needs
@@ -25,15 +26,19 @@ next-free-requires c κs = search needs
 add-t22 : tie.Need-add-t22
 add-t22 c =
     let s = c .before .before .before .before .before .before .before .before in
-    omega (arith, s .pre .0 .version-left, limit-high (s .args .rec .edition))
+    omega (arith, s .pre .0 .version-left, limit-high (newLayout (s .args .rec)))
 
 new-digest-requires : tie.Need-new-digest-requires
 new-digest-requires c κs =
-    let v = c .before .before .before .before .before .before .before .before .pre .0 in
-    head-ready _ _ _ _ (v .lent) _ (victim-within v) (v .number-left) _ (c .before .before .next-free .ensures)
+    let s = c .before .before .before .before .before .before .before .before in
+    let v = s .pre .0 in
+    head-ready _ _ _ _ (v .lent) _ (victim-within v) (s .pre .1 .0) _ (c .before .before .next-free .ensures)
 
 write-digest-requires : tie.Need-write-digest-requires
-write-digest-requires c κs = search needs
+write-digest-requires c κs =
+    let s = c .before .before .before .before .before .before .before .before .before in
+    let v = s .pre .0 in
+    omega (arith, room s, victim-size v, v .long)
 
 put-slot-requires : tie.Need-put-slot-requires
 put-slot-requires c κs =

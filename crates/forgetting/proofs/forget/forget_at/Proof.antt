@@ -60,8 +60,8 @@ mark-left-requires c κs =
     let e = c .before .before .before in
     let s = e .before .before .before .before .before .before .before in
     victim-fits
-    (victim-ready _ (s .args .rec) _ _ (c .before .before .with-slot .ensures) _ (c .before .split-of .ensures)
-    (sym (e .before .in-log .ensures) ∙ not-false _ (e .if1 .left)) _ _ _ (s .pre .0) _ (length-replicate {A = ℕ} 128 0))
+    (victim-ready (s .args .rec) _ _ (c .before .before .with-slot .ensures) _ (c .before .split-of .ensures)
+    (sym (e .before .in-log .ensures) ∙ not-false _ (e .if1 .left)) _ _ _ _ (s .pre .0) _ (length-replicate {A = ℕ} 128 0))
 
 slice-aggregate-is-marked : tie.Need-slice-aggregate-is-marked
 slice-aggregate-is-marked c = search needs
@@ -78,8 +78,8 @@ forget-live-requires c κs =
     let p = m .before .before in
     let e = p .before .before in
     let s = e .before .before .before .before .before .before .before in
-    victim-ready _ (s .args .rec) _ _ (p .before .with-slot .ensures) _ (p .split-of .ensures)
-    (sym (e .before .in-log .ensures) ∙ not-false _ (e .if1 .left)) _ _ _ (s .pre .0) _
+    victim-ready (s .args .rec) _ _ (p .before .with-slot .ensures) _ (p .split-of .ensures)
+    (sym (e .before .in-log .ensures) ∙ not-false _ (e .if1 .left)) _ _ _ _ (s .pre .0) _
     (ap length (m .mark-left .ensures) ∙ length-left _ _ _ _ _ 128 (length-replicate {A = ℕ} 128 0))
 
 same-length : tie.Need-same-length
@@ -92,8 +92,8 @@ returns-2 c =
     let e = p .before .before in
     let b = e .before .before .before .before .before .before .before in
     let a = b .args in
-    victim-begun _ (a .rec) _ _ (p .before .with-slot .ensures) _ (p .split-of .ensures)
-    (sym (e .before .in-log .ensures) ∙ not-false _ (e .if1 .left)) (now (a .area)) (now (a .index)) (a .key) (now (a .work)) (a .cell) _ _ _ (b .pre .1 .1)
+    victim-begun (a .rec) _ _ (p .before .with-slot .ensures) _ (p .split-of .ensures)
+    (sym (e .before .in-log .ensures) ∙ not-false _ (e .if1 .left)) _ (now (a .area)) (now (a .index)) (a .key) (now (a .work)) (a .cell) _ _ _ (b .pre .1 .1)
     (m .mark-left .ensures) (c .before .before .before .before .before .before .is-marked .ensures) (c .before .before .forget-live .ensures)
 
 pub forget-at-spec : {M : Type 1} → statement M

@@ -27,10 +27,10 @@ look-under-requires : tie.Need-look-under-requires
 look-under-requires c κs = (c .before .before .before .before .before .pre, head-is _ _ _ (found (c .before)) .below)
 
 returns : tie.Need-returns
-returns c = head-none _ _ (told-nothing _ (sym (c .before .before .find-head .ensures) ∙ c .enum-told .given .1))
+returns c = head-none (c .before .before .before .before .args .single) _ _ (told-nothing _ (sym (c .before .before .find-head .ensures) ∙ c .enum-told .given .1))
 
 returns-2 : tie.Need-returns-2
-returns-2 c = c .look-under .ensures ∙ head-some _ _ _ (found (c .before .before))
+returns-2 c = c .look-under .ensures ∙ head-some (c .before .before .before .before .before .before .args .single) _ _ _ (found (c .before .before))
 
 pub look-at-spec : {M : Type 1} → statement M
 look-at-spec =

@@ -23,13 +23,13 @@ cut-requires c κs =
 edition-of-requires : tie.Need-edition-of-requires
 edition-of-requires c κs = search needs
 
-names-other-edition-requires : tie.Need-names-other-edition-requires
-names-other-edition-requires c κs = search needs
+editions-bad-requires : tie.Need-editions-bad-requires
+editions-bad-requires c κs = search needs
 
 returns : tie.Need-returns
 returns c =
     let o = c .before .before in
-    head-mixed _ _ _ (o .before .before .before .pre .1) _ (own o) (sym (c .before .names-other-edition .ensures) ∙ c .if1 .taken)
+    head-mixed (o .before .before .before .args .single) _ _ _ (o .before .before .before .pre .1) _ (own o) (sym (c .before .editions-bad .ensures) ∙ c .if1 .taken)
 
 survey-requires : tie.Need-survey-requires
 survey-requires c κs = search needs
@@ -39,7 +39,7 @@ returns-2 c =
     let s = c .before .before in
     let e = s .before in
     let o = e .before .before in
-    head-damaged _ _ _ (o .before .before .before .pre .1) _ (own o) (sym (e .before .names-other-edition .ensures) ∙ e .if1 .left)
+    head-damaged (o .before .before .before .args .single) _ _ _ (o .before .before .before .pre .1) _ (own o) (sym (e .before .editions-bad .ensures) ∙ e .if1 .left)
     (s .survey .ensures .damage (not-true _ (c .if2 .taken)))
 
 version-shared-requires : tie.Need-version-shared-requires
@@ -54,7 +54,7 @@ returns-3 c =
     let s = k .before .before in
     let e = s .before in
     let o = e .before .before in
-    head-shared _ _ _ (o .before .before .before .pre .1) _ (own o) (sym (e .before .names-other-edition .ensures) ∙ e .if1 .left)
+    head-shared (o .before .before .before .args .single) _ _ _ (o .before .before .before .pre .1) _ (own o) (sym (e .before .editions-bad .ensures) ∙ e .if1 .left)
     (s .survey .ensures .undamaged (not-false _ (k .if2 .left))) (sym (c .before .version-shared .ensures) ∙ c .if3 .taken)
 
 returns-4 : tie.Need-returns-4
@@ -64,7 +64,7 @@ returns-4 c =
     let e = s .before in
     let o = e .before .before in
     let whole = not-false _ (k .if2 .left) in
-    head-sound _ _ _ (o .before .before .before .pre .1) _ (own o) (sym (e .before .names-other-edition .ensures) ∙ e .if1 .left)
+    head-sound (o .before .before .before .args .single) _ _ _ (o .before .before .before .pre .1) _ (own o) (sym (e .before .editions-bad .ensures) ∙ e .if1 .left)
     (s .survey .ensures .undamaged whole) _
     (λ i. record { 0 = s .survey .ensures .highest-is whole i }) (sym (c .before .before .version-shared .ensures) ∙ c .before .if3 .left)
 
@@ -74,7 +74,7 @@ look-through-spec =
     (tie.spec
     cut-requires
     edition-of-requires
-    names-other-edition-requires
+    editions-bad-requires
     returns
     survey-requires
     returns-2

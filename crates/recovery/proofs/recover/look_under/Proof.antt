@@ -21,7 +21,7 @@ look-through-requires c κs = (
 )
 
 returns : tie.Need-returns
-returns c = head-digest _ _ _ _ (check-refused _ _ (sym (c .before .before .before .check-digest .ensures) ∙ c .before .cause .given .1))
+returns c = head-digest (c .before .before .before .before .before .args .single) _ _ _ _ (check-refused _ _ (sym (c .before .before .before .check-digest .ensures) ∙ c .before .cause .given .1))
 
 returns-2 : tie.Need-returns-2
 returns-2 c = search needs

@@ -1,5 +1,6 @@
 -- `recovery::recover::recover_image` meets its contract: a law for each answer of the image and of the rebuilding.
 use mathlib.Core.Path.{_≡_, sym, _∙_}
+use mathlib.Core.Bool.{false}
 use native.Mathlib.Omega.{arith}
 use Rattle.model.specs.Log.{viewsOf}
 use Rattle.laws.specs.Stores.{slot-inside}
@@ -12,7 +13,7 @@ use Rattle.recovery.proofs.recover.recover_image.Tie as tie
 
 sound : (c : tie.After-edition)
     → let a = c .before .before .before .before .before .before .args in
-    imageOf (viewsOf (a .area .now) (a .s)) (a .n) ≡ Image.Sound (c .edition .given .0 .0) (c .edition .given .0 .1 .0) (c .edition .given .0 .1 .1 .0) (c .edition .given .0 .1 .1 .1 .0)
+    imageOf false (viewsOf (a .area .now) (a .s)) (a .n) ≡ Image.Sound (c .edition .given .0 .0) (c .edition .given .0 .1 .0) (c .edition .given .0 .1 .1 .0) (c .edition .given .0 .1 .1 .1 .0)
 sound c = sym (c .before .before .look-at .ensures) ∙ c .edition .given .1
 
 look-at-requires : tie.Need-look-at-requires

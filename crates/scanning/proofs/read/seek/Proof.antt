@@ -17,7 +17,7 @@ fits c = sym (c .before .geometry-bad .ensures) ∙ c .if1 .left
 -- the head that was found
 found : (c : tie.After-known-told2)
     → let a = c .before .before .before .before .before .before .before .args in
-    imageOf (viewsOf (a .area .now) (a .s)) (a .n) ≡
+    imageOf false (viewsOf (a .area .now) (a .s)) (a .n) ≡
     Image.Sound (c .before .digest .given .0 .0) (c .before .digest .given .0 .1 .0) (c .before .digest .given .0 .1 .1 .0) (c .before .digest .given .0 .1 .1 .1 .0)
 found c = sym (c .before .before .before .look-at .ensures) ∙ c .before .digest .given .1
 

@@ -2,6 +2,7 @@
 use borrow.Author.Needs.{needs}
 use native.Mathlib.Omega.{arith}
 use Rattle.segment.specs.LayoutLaws.{limit-high}
+use Rattle.record.specs.Switch.{newLayout}
 use Rattle.stepping.specs.FinishLaws.{in-append, in-head, in-clean, in-forget, with-idle, with-append, with-head, with-clean, with-forget}
 use Rattle.telling.specs.AgreeLaws.{append-agrees, head-agrees, clean-agrees, forget-agrees}
 use Rattle.stepping.proofs.finish.finish.Statement.{statement}
@@ -19,7 +20,7 @@ finish-head-requires c κs =
     let d = c .before .before .before .before .before .before in
     let e = c .before .before .pending2 .given .1 in
     let g = head-agrees _ (d .args .rec) (d .pre .4) e in
-    (d .pre .0, d .pre .1, d .pre .2, in-head (d .args .rec) e (d .pre .3) .0, omega (arith, g .1 .version, limit-high (d .args .rec .edition)), g .0 .number, d .pre .5, d .pre .6)
+    (d .pre .0, d .pre .1, d .pre .2, in-head (d .args .rec) e (d .pre .3) .0, omega (arith, g .1 .version, limit-high (newLayout (d .args .rec))), g .0 .number, d .pre .5, d .pre .6)
 
 finish-clean-requires : tie.Need-finish-clean-requires
 finish-clean-requires c κs =
@@ -32,7 +33,7 @@ finish-forget-requires c κs =
     let d = c .before .before .before .before .before .before in
     let e = c .before .before .pending4 .given .1 in
     let g = forget-agrees _ (d .args .rec) (d .pre .4) e in
-    (d .pre .0, d .pre .1, d .pre .2, in-forget (d .args .rec) e (d .pre .3) .0, omega (arith, g .1, limit-high (d .args .rec .edition)), g .0 .number)
+    (d .pre .0, d .pre .1, d .pre .2, in-forget (d .args .rec) e (d .pre .3) .0, omega (arith, g .1, limit-high (newLayout (d .args .rec))), g .0 .number)
 
 returns : tie.Need-returns
 returns c = with-idle _ _ _ _ (c .before .enum-told .given .1) (c .refused .ensures)

@@ -11,7 +11,7 @@ finish-entry-requires c κs =
     (omega arith, omega arith, omega arith, omega arith, segment-in (d .args .rec .slots) (d .args .rec .size) (d .args .rec .head) _ (d .pre .2) (d .pre .3), d .pre .7)
 
 returns : tie.Need-returns
-returns c = append-goes _ _ _ _ _ (c .before .before .before .before .before .append-commit .ensures) (c .before .before .finish-entry .ensures)
+returns c = append-goes _ _ _ _ (c .before .before .before .before .before .append-commit .ensures) (c .before .before .finish-entry .ensures)
 
 pub finish-append-spec : {M : Type 1} → statement M
 finish-append-spec =

@@ -9,10 +9,10 @@ use Rattle.stepping.proofs.finish.finish_head.Tie as tie
 finish-entry-requires : tie.Need-finish-entry-requires
 finish-entry-requires c κs =
     let d = c .before .before .before .before .before .before .before .before in
-    (omega arith, omega arith, omega arith, omega (arith, width-high (d .args .rec .edition), c .digest-size .ensures), segment-in (d .args .rec .slots) (d .args .rec .size) (d .args .slot) _ (d .pre .2) (d .pre .3), d .pre .7)
+    (omega arith, omega arith, omega arith, omega (arith, width-high (c .before .before .head-commit .result .edition), c .digest-size .ensures), segment-in (d .args .rec .slots) (d .args .rec .size) (d .args .slot) _ (d .pre .2) (d .pre .3), d .pre .7)
 
 returns : tie.Need-returns
-returns c = head-goes _ _ _ _ _ _ (c .before .before .before .before .before .before .before .with-slot .ensures) (c .before .before .before .before .before .head-commit .ensures) (c .before .before .before .digest-size .ensures) (c .before .before .finish-entry .ensures)
+returns c = head-goes _ _ _ _ _ (c .before .before .before .before .before .before .before .with-slot .ensures) (c .before .before .before .before .before .head-commit .ensures) (c .before .before .before .digest-size .ensures) (c .before .before .finish-entry .ensures)
 
 pub finish-head-spec : {M : Type 1} → statement M
 finish-head-spec =

@@ -14,7 +14,7 @@ returns : tie.Need-returns
 returns c = entry-spent _ _ _ _ (ltb-false _ _ (sym (c .before .version-left .ensures) ∙ not-true _ (c .if1 .taken)))
 
 add-result : tie.Need-add-result
-add-result c = omega (arith, c .head-size .ensures, width-high (c .before .before .before .args .rec .edition), c .before .before .before .pre)
+add-result c = omega (arith, c .head-size .ensures, width-high (c .before .before .before .args .edition), c .before .before .before .pre)
 
 returns-2 : tie.Need-returns-2
 returns-2 c =

@@ -3,13 +3,12 @@ use mathlib.Core.Path.{_≡_, refl, sym, _∙_}
 use denote.Ref.{now}
 use lib.ListN.{length}
 use native.Mathlib.Omega.{arith}
-use Rattle.segment.specs.LayoutLaws.{width-high}
 use Rattle.model.specs.Causes.{firstCause}
 use Rattle.starting.specs.declared.Check.{Check}
 use Rattle.starting.specs.Checks.{checked}
 use Rattle.writing.specs.declared.Presence.the-variants.{Tombstone, Nothing}
 use Rattle.writing.specs.Tests.{factsOf, firstTests}
-use Rattle.writing.specs.TestLaws.{first-bad, delete-first, delete-forbidden, delete-absent, delete-spent, delete-number}
+use Rattle.writing.specs.TestLaws.{first-bad, delete-first, delete-forbidden, delete-absent, delete-spent, delete-known}
 use borrow.Author.Needs.{needs}
 use borrow.Author.Tests.{not-false}
 use Rattle.writing.proofs.causes.check_delete.Statement.{statement}
@@ -52,11 +51,8 @@ enum-told-5 c = search needs
 
 returns-2 : tie.Need-returns-2
 returns-2 c =
-    let f = c .before .before .before .before .before .before in
-    delete-spent _ _ _ _ _ _ (first (f .before)) _ (sym (c .before .before .before .before .enum-told5 .given .1) ∙ f .find .ensures) (c .if2 .taken ∙ c .before .before .version-limit .ensures)
-
-check-number-requires : tie.Need-check-number-requires
-check-number-requires c κs = omega (arith, width-high (c .before .before .before .before .before .before .before .before .before .before .before .before .before .before .before .args .rec .edition), c .head-size .ensures)
+    let f = c .before .before .before .before in
+    delete-spent _ _ _ _ _ _ (first (f .before)) _ (sym (c .before .before .enum-told5 .given .1) ∙ f .find .ensures) (sym (c .before .versions-spent .ensures) ∙ c .if2 .taken)
 
 returns-3 : tie.Need-returns-3
 returns-3 c = delete-first _ _ _ _ _ _ _ (sym (c .before .c .given .1) ∙ c .before .before .before .check-first .ensures)
@@ -77,9 +73,9 @@ returns-6 c =
 
 returns-7 : tie.Need-returns-7
 returns-7 c =
-    let f = c .before .before .before .before .before .before .before .before in
-    delete-number _ _ _ _ _ _ (first (f .before)) _ (sym (c .before .before .before .before .before .before .enum-told5 .given .1) ∙ f .find .ensures)
-    _ (c .before .head-size .ensures) (λ e. c .before .before .if2 .left (e ∙ sym (c .before .before .before .before .version-limit .ensures))) (c .check-number .ensures)
+    let f = c .before .before .before .before in
+    delete-known _ _ _ _ _ _ (first (f .before)) _ (sym (c .before .before .enum-told5 .given .1) ∙ f .find .ensures)
+    (sym (c .before .versions-spent .ensures) ∙ c .if2 .left)
 
 pub check-delete-spec : {M : Type 1} → statement M
 check-delete-spec =
@@ -97,8 +93,6 @@ check-delete-spec =
     enum-told-5
     (λ c κs. search needs)
     returns-2
-    (λ c κs. search needs)
-    check-number-requires
     returns-3
     returns-4
     returns-5

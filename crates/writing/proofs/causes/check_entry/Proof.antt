@@ -5,11 +5,11 @@ use borrow.Author.Needs.{needs}
 use Rattle.writing.proofs.causes.check_entry.Statement.{statement}
 use Rattle.writing.proofs.causes.check_entry.Tie as tie
 
-version-limit-requires : tie.Need-version-limit-requires
-version-limit-requires c κs = search needs
+versions-spent-requires : tie.Need-versions-spent-requires
+versions-spent-requires c κs = search needs
 
 returns : tie.Need-returns
-returns c = entry-spent _ _ _ _ (c .if1 .taken ∙ c .before .before .version-limit .ensures)
+returns c = entry-spent _ _ _ _ (sym (c .before .versions-spent .ensures) ∙ c .if1 .taken)
 
 check-key-requires : tie.Need-check-key-requires
 check-key-requires c κs = search needs
@@ -26,18 +26,18 @@ check-room-requires c κs = search needs
 returns-2 : tie.Need-returns-2
 returns-2 c =
     let t = c .before .before .before .before in
-    entry-key _ _ _ _ (λ e. t .if1 .left (e ∙ sym (t .before .before .version-limit .ensures))) _ (sym (c .before .c .given .1) ∙ c .before .before .before .check-key .ensures)
+    entry-key _ _ _ _ (sym (t .before .versions-spent .ensures) ∙ t .if1 .left) _ (sym (c .before .c .given .1) ∙ c .before .before .before .check-key .ensures)
 
 returns-3 : tie.Need-returns-3
 returns-3 c =
     let k = c .before .before .before in
-    entry-room _ _ _ _ (λ e. k .before .if1 .left (e ∙ sym (k .before .before .before .version-limit .ensures))) (sym (c .before .enum-told .given .1) ∙ k .check-key .ensures) (c .check-room .ensures)
+    entry-room _ _ _ _ (sym (k .before .before .versions-spent .ensures) ∙ k .before .if1 .left) (sym (c .before .enum-told .given .1) ∙ k .check-key .ensures) (c .check-room .ensures)
 
 pub check-entry-spec : {M : Type 1} → statement M
 check-entry-spec =
     tie.close
     (tie.spec
-    version-limit-requires
+    versions-spent-requires
     returns
     check-key-requires
     enum-known-c

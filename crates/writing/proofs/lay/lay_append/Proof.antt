@@ -6,6 +6,7 @@ use native.Mathlib.Omega.{arith}
 use denote.Ref.{now}
 use lib.ListN.{length}
 use borrow.Author.Tests.{leb-true}
+use Rattle.segment.specs.Choice.{both-left}
 use Rattle.segment.specs.Layout.{entrySize}
 use Rattle.starting.specs.Stores.{stores-most}
 use Rattle.writing.specs.Laying.{append-said}
@@ -20,7 +21,9 @@ sized c = omega (arith, c .head-size .ensures)
 -- which fits the head
 fit : (c : tie.Start) →
     let a = c .args in a .rec .end + entrySize (a .rec .edition) (length (now (a .value))) ≤ a .rec .size
-fit c = leb-true _ _ (c .pre .1 .0)
+fit c =
+    let a = c .args in
+    leb-true (a .rec .end + entrySize (a .rec .edition) (length (now (a .value)))) (a .rec .size) (both-left _ _ (c .pre .1 .0))
 
 head-size-requires : tie.Need-head-size-requires
 head-size-requires c κs = search needs

@@ -14,7 +14,7 @@ use Rattle.writing.proofs.lay.lay_head.Tie as tie
 
 -- the length of the entry
 sized : (c : tie.After-head-size) →
-    let a = c .before .before .before .before .args in c .head-size .result + length (now (a .value)) ≡ entrySize (a .rec .edition) (length (now (a .value)))
+    let a = c .before .before .before .before .args in c .head-size .result + length (now (a .value)) ≡ entrySize (a .into) (length (now (a .value)))
 sized c = omega (arith, c .head-size .ensures)
 
 digest-size-requires : tie.Need-digest-size-requires
@@ -43,7 +43,7 @@ write-digest-requires c κs = search needs
 write-entry-requires : tie.Need-write-entry-requires
 write-entry-requires c κs =
     let s = c .before .before .before .before .before .before .before .before .before .before .before .before in
-    omega (arith, s .pre .0 .room, s .pre .0 .long, s .pre .0 .lent .size-low, c .before .before .before .before .before .before .before .before .before .digest-size .ensures, simp length-sets at (ap length (c .before .before .before .write-digest .ensures)))
+    omega (arith, s .pre .1 .1 .1, s .pre .0 .long, s .pre .0 .lent .size-low, c .before .before .before .before .before .before .before .before .before .digest-size .ensures, simp length-sets at (ap length (c .before .before .before .write-digest .ensures)))
 
 cast-head-stores : tie.Need-cast-head-stores
 cast-head-stores c = search needs
@@ -51,15 +51,15 @@ cast-head-stores c = search needs
 head-stores-requires : tie.Need-head-stores-requires
 head-stores-requires c κs =
     let s = c .before .before .before .before .before .before .before .before .before .before .before .before .before .before .before .before in
-    (omega (arith, s .pre .0 .room, s .pre .0 .lent .size-low, c .before .before .before .before .before .before .before .before .before .before .before .before .before .digest-size .ensures, sized (c .before .before .before .before .before .before .before .before .before .before .before .before)), s .pre .0 .lent .size-high)
+    (omega (arith, s .pre .1 .1 .1, s .pre .0 .lent .size-low, c .before .before .before .before .before .before .before .before .before .before .before .before .before .digest-size .ensures, sized (c .before .before .before .before .before .before .before .before .before .before .before .before)), s .pre .0 .lent .size-high)
 
 cast-left : tie.Need-cast-left
 cast-left c =
     let most = head-most _ _ (c .head-stores .ensures) in
-    omega (arith, c .before .before .before .before .before .before .before .before .before .before .before .before .before .before .before .before .before .pre .0 .room, c .before .before .before .before .before .before .before .before .before .before .before .before .before .before .digest-size .ensures, sized (c .before .before .before .before .before .before .before .before .before .before .before .before .before))
+    omega (arith, c .before .before .before .before .before .before .before .before .before .before .before .before .before .before .before .before .before .pre .1 .1 .1, c .before .before .before .before .before .before .before .before .before .before .before .before .before .before .digest-size .ensures, sized (c .before .before .before .before .before .before .before .before .before .before .before .before .before))
 
 cast-length : tie.Need-cast-length
-cast-length c = omega (arith, c .before .before .before .before .before .before .before .before .before .before .before .before .before .before .before .before .before .pre .0 .room, c .before .before .before .before .before .before .before .before .before .before .before .before .before .before .digest-size .ensures, sized (c .before .before .before .before .before .before .before .before .before .before .before .before .before))
+cast-length c = omega (arith, c .before .before .before .before .before .before .before .before .before .before .before .before .before .before .before .before .before .pre .1 .1 .1, c .before .before .before .before .before .before .before .before .before .before .before .before .before .before .digest-size .ensures, sized (c .before .before .before .before .before .before .before .before .before .before .before .before .before))
 
 same-length : tie.Need-same-length
 same-length c = search needs
@@ -67,7 +67,7 @@ same-length c = search needs
 returns : tie.Need-returns
 returns c =
     let d = c .before .before .before .before .before .before .before .before in
-    head-said _ _ _ _ _ (d .before .before .before .before .before .before .before .before .before .pre .1 .1) _ (sized (d .before .before .before .before .before)) _ _ _ (d .before .before .before .before .before .before .digest-size .ensures) _ _ _ _ _ refl (d .before .before .before .next-free .ensures) (d .before .new-digest .ensures) (d .write-digest .ensures)
+    head-said _ _ _ _ _ (d .before .before .before .before .before .before .before .before .before .pre .1 .1 .0) _ (sized (d .before .before .before .before .before)) _ _ _ (d .before .before .before .before .before .before .digest-size .ensures) _ _ _ _ _ refl (d .before .before .before .next-free .ensures) (d .before .new-digest .ensures) (d .write-digest .ensures)
     (c .before .before .before .before .write-entry .ensures) (c .head-stores .ensures)
 
 pub lay-head-spec : {M : Type 1} → statement M

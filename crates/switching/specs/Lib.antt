@@ -1,0 +1,2 @@
+-- What the switch answers, case by case.
+pub mod SwitchLaws
