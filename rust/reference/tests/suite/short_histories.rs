@@ -85,19 +85,24 @@ impl Explorer {
     }
 }
 
+/// How many histories of so many operations were tried on a store, each with cuts; the first that goes wrong is told.
+fn explored(rig: &Rig<AsWritten>, bytes: [usize; 2], depth: u32, switches: bool) -> u64 {
+    let mut explorer = Explorer {
+        choices: two_keys(bytes),
+        histories: 0,
+        switches,
+    };
+    if let Err((history, fault)) = explorer.explore(rig, depth, false) {
+        panic!("{fault} after\n{history}");
+    }
+    explorer.histories
+}
+
 fn explore_all(edition: Edition, slot_bytes: u32, fill: u8, bytes: [usize; 2]) {
     let area = vec![fill; 4 * slot_bytes as usize];
     let mut rig = Rig::<AsWritten>::of(edition, 4, slot_bytes, 16, area);
     rig.keys = vec![A, B];
-    let mut explorer = Explorer {
-        choices: two_keys(bytes),
-        histories: 0,
-        switches: false,
-    };
-    if let Err((history, fault)) = explorer.explore(&rig, 4, false) {
-        panic!("{fault} after\n{history}");
-    }
-    assert!(explorer.histories > 780);
+    assert!(explored(&rig, bytes, 4, false) > 780);
 }
 
 /// A store of the first edition with so many versions left in it, which has entries in two slots and is switched.
@@ -116,15 +121,7 @@ fn explore_switched(fill: u8, bytes: [usize; 2], versions_left: u64) {
     }
     assert_eq!(rig.record().map.count(), 2);
     rig.switch().unwrap().unwrap();
-    let mut explorer = Explorer {
-        choices: two_keys(bytes),
-        histories: 0,
-        switches: true,
-    };
-    if let Err((history, fault)) = explorer.explore(&rig, 3, false) {
-        panic!("{fault} after\n{history}");
-    }
-    assert!(explorer.histories > 150);
+    assert!(explored(&rig, bytes, 3, true) > 150);
 }
 
 #[test]

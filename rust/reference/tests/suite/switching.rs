@@ -637,6 +637,15 @@ fn old_bytes_copied() {
     told("old bytes", history::<AsWritten>(), history::<Wrong>());
 }
 
+/// A store of the first edition that is full of live objects but for one: none of its slots fits once it is rewritten.
+fn full_of_old<R: Rules>() -> Result<Rig<R>, Fault> {
+    let mut rig = Rig::<R>::new(4, 256, 64, vec![0; 1024]);
+    rig.keys = (0..36).map(other).collect();
+    rig.fill(&[8])?;
+    rig.run(&Operation::Delete(other(0)))?.ok();
+    Ok(rig)
+}
+
 /// A full delete is never refused with 14.
 #[test]
 fn full_delete_refused_as_a_cleaning() {
@@ -645,10 +654,7 @@ fn full_delete_refused_as_a_cleaning() {
         const FULL_DELETE_MEETS_14: bool = true;
     }
     fn history<R: Rules>() -> Result<(), Fault> {
-        let mut rig = Rig::<R>::new(4, 256, 64, vec![0; 1024]);
-        rig.keys = (0..36).map(other).collect();
-        rig.fill(&[8])?;
-        rig.run(&Operation::Delete(other(0)))?.ok();
+        let mut rig = full_of_old::<R>()?;
         rig.switch()?.ok();
         refused(&mut rig, &Operation::Delete(other(30)), 12)
     }
@@ -663,10 +669,7 @@ fn digest_numbers_before_room() {
         const DIGESTS_SPENT_BEFORE_ROOM: bool = true;
     }
     fn history<R: Rules>() -> Result<(), Fault> {
-        let mut rig = Rig::<R>::new(4, 256, 64, vec![0; 1024]);
-        rig.keys = (0..36).map(other).collect();
-        rig.fill(&[8])?;
-        rig.run(&Operation::Delete(other(0)))?.ok();
+        let mut rig = full_of_old::<R>()?;
         let at = (rig.record().head * 256) as usize + 1;
         rig.area[at..at + 4].copy_from_slice(&u32::MAX.to_le_bytes());
         rig.must_recover(&ORDERS[0])?;
