@@ -1,7 +1,7 @@
 -- A converted area has the book of the store that it was converted from, by the invariant of demand 3 (02, R-12).
 use Prim.Native.Nat.{ℕ, max}
 use native.Mathlib.Omega.{arith}
-use mathlib.Core.Path.{refl, sym, ap, _∙_, subst}
+use mathlib.Core.Path.{refl, sym, ap, _∙_, subst, subst⁻¹}
 use mathlib.Core.Logic.{inl}
 use mathlib.Core.List.{List}
 use mathlib.Core.Option.{none, some}
@@ -10,9 +10,10 @@ use Rattle.record.specs.declared.Record.{Record}
 use Rattle.model.specs.Log.{Placed}
 use Rattle.model.specs.Recovery.{recordFrom}
 use Rattle.laws.specs.MapLaws.{valueAt}
+use Rattle.laws.specs.RecoverLaws.{recovered-own}
 use Rattle.laws.specs.Converted.{SameStore, conversion-same, conversion-slots}
 use Rattle.history.specs.Book.{Book, bookAfter, freshBook, bookOf, highestTold}
-use Rattle.history.specs.Editions.{Editions, formattedIn, editionsBehind}
+use Rattle.history.specs.Editions.{Editions, Among, formattedIn, editionsBehind}
 use Rattle.history.specs.Runs.{World}
 use Rattle.history.specs.Conversions.{StoreWith, ConversionKeepsBook}
 use Rattle.history.proofs.Invariant.{Inv, SlotsAmong, HeldGood, baseCells, recovered-is, next-of, log-of}
@@ -66,8 +67,9 @@ inv-store E L n s w b t inv =
 pub conversion-keeps-book : (L : Layout) → ConversionKeepsBook L
 conversion-keeps-book L n s area₀ area ab p es w r target target′ q =
     let (K, inv, agrees) = run-keeps n s (formattedIn L) L freshBook 0 r (fresh n s L area₀ area ab p) in
-    let m = baseCells (w .cells) in (
-      K,
+    let m = baseCells (w .cells) in
+    subst⁻¹ (λ (M : Layout). Among (editionsBehind (formattedIn L) es) M × StoreWith (formattedIn (otherLayout M)) n s (carriedWorld w target′) (bookOf es) (highestTold es))
+    (recovered-own K n s m (w .area) (recordFrom K n s m (w .area)) (inv .base) .0) (
       inv .agrees .own-among,
       inv-store (formattedIn (otherLayout K)) (otherLayout K) n s (carriedWorld w target′) (bookOf es) (highestTold es)
           (carried-inv (editionsBehind (formattedIn L) es) K (otherLayout K) n s w (bookOf es) (highestTold es) target′ (told K inv)

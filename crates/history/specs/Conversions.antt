@@ -40,5 +40,5 @@ abbrev pub ConversionKeepsBook : Layout → Type 0
 ConversionKeepsBook L =
     (n s : ℕ) (area₀ area : List ℕ) → Bytes area₀ → FormatPromise (numberOfLayout L) n s area₀ area FormatAnswer.Formatted → (es : List Event) (w : World) →
     Run n s (freshWorld area) es w → (target target′ : List ℕ) → ConvertPromise n s (w .area) target target′ ConvertAnswer.Converted →
-    (K : Layout) × Among (editionsBehind (formattedIn L) es) K
-    × StoreWith (formattedIn (otherLayout K)) n s (record { area = target′; held = none; cells = w .cells }) (bookOf es) (highestTold es)
+    Among (editionsBehind (formattedIn L) es) (imageLayout n s (w .area))
+    × StoreWith (formattedIn (otherLayout (imageLayout n s (w .area)))) n s (record { area = target′; held = none; cells = w .cells }) (bookOf es) (highestTold es)
