@@ -1,21 +1,18 @@
 -- The entries of a segment at each test of the code. Premises are the tests as the code has them, and what its callees give.
 use Prim.Native.Nat.{ℕ, _+_, _*_, _≤_, _<_}
-use mathlib.Core.Path.{_≡_, refl, sym, _∙_, ap}
+use mathlib.Core.Path.{_≡_, sym, _∙_, ap}
 use mathlib.Core.Bool.{true}
 use mathlib.Core.List.{List, [], _∷_}
-use mathlib.Core.Option.{Option, none, some}
 use native.Mathlib.Nat.{mul-le-mul}
 use native.Mathlib.Omega.{arith}
 use lib.ListN.{length}
-use Rattle.segment.specs.Choice.{isNone}
 use Rattle.segment.specs.Layout.{Layout, entrySize}
-use Rattle.segment.specs.Entry.{Entry, entry, entryAt, bytesIn}
-use Rattle.segment.specs.Entries.{headerOf, nextOf, next-entry, next-fits, next-end, next-damage}
+use Rattle.segment.specs.Entry.{Entry, entry, entryAt}
+use Rattle.segment.specs.Entries.{headerOf, nextOf, tombstone-size, next-entry, next-fits, next-end, next-damage}
 use Rattle.segment.specs.declared.Header.{Header}
 use Rattle.segment.specs.declared.Next.{Next}
 use Rattle.segment.specs.declared.Next.the-variants as N
 use Rattle.model.specs.Log.{segmentOf}
-use Rattle.laws.specs.Members.{clash}
 use Rattle.laws.specs.Scans.{itemAt}
 use Rattle.laws.specs.Stores.{slot-inside, length-segment}
 use Rattle.index.specs.Build.{entriesAt}
@@ -84,9 +81,5 @@ meets-long L s at m = omega (arith, ap (λ (g : Header). g .length) (m .its))
 
 -- a tombstone is as long as the shortest entry
 pub tombstone-length : (L : Layout) (s : List ℕ) (at : ℕ) {h : Header} → Meets L s at h → h .tombstone ≡ true → h .length ≡ entrySize L 0
-unfolding isNone bytesIn
-tombstone-length L s at m t = sym (ap (λ (g : Header). g .length) (m .its)) ∙ go (m .met .value) (ap (λ (g : Header). g .tombstone) (m .its) ∙ t)
-  where
-    go : (v : Option (List ℕ)) → isNone v ≡ true → entrySize L (length (bytesIn v)) ≡ entrySize L 0
-    go none e = refl
-    go (some b) e = absurd (clash true refl (sym e))
+tombstone-length L s at m t =
+    sym (ap (λ (g : Header). g .length) (m .its)) ∙ tombstone-size L (m .met) (ap (λ (g : Header). g .tombstone) (m .its) ∙ t)

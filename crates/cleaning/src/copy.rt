@@ -1,6 +1,5 @@
 // What is kept, copied to the work buffer.
 use crate::Split;
-use crate::behind::behind;
 use crate::chosen::is_chosen;
 use crate::kept::is_kept;
 use log::head::same_edition;
@@ -9,6 +8,7 @@ use segment::Edition;
 use segment::Header;
 use segment::Next;
 use segment::area::cut;
+use segment::entries::behind;
 use segment::entries::next;
 use segment::layout::digest_size;
 use segment::reader::edition_of;

@@ -1,6 +1,5 @@
 // What is kept of the victims' slots, and how long it is.
 use crate::Split;
-use crate::behind::behind;
 use crate::chosen::choose;
 use crate::marks::is_marked;
 use index::Found;
@@ -10,6 +9,7 @@ use segment::Edition;
 use segment::Header;
 use segment::Next;
 use segment::area::cut;
+use segment::entries::behind;
 use segment::entries::next;
 use segment::layout::digest_size;
 use segment::layout::head_size;

@@ -1,12 +1,12 @@
 // The keys of the victims' tombstones, put into a filter. An object of any other key keeps no tombstone.
 use crate::Split;
-use crate::behind::behind;
 use crate::filter::put;
 use log::slots::is_named;
 use segment::Edition;
 use segment::Header;
 use segment::Next;
 use segment::area::cut;
+use segment::entries::behind;
 use segment::entries::next;
 use segment::layout::digest_size;
 use segment::reader::edition_of;

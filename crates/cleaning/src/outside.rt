@@ -1,7 +1,6 @@
 // One walk over the log outside the victims: the cells of the keys of its objects are marked, where a filter has the key. A
 // tombstone among the victims is kept if the cell of its key is.
 use crate::Split;
-use crate::behind::behind;
 use crate::filter::has;
 use crate::marks::mark;
 use crate::noted::note_victims;
@@ -14,6 +13,7 @@ use segment::Header;
 use segment::Key;
 use segment::Next;
 use segment::area::cut;
+use segment::entries::behind;
 use segment::entries::next;
 use segment::layout::digest_size;
 use segment::reader::edition_of;

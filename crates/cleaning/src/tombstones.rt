@@ -1,10 +1,10 @@
 // Whether a victim holds a tombstone: only then it matters which objects stand outside the victims.
 use crate::Split;
-use crate::behind::behind;
 use log::slots::is_named;
 use segment::Edition;
 use segment::Next;
 use segment::area::cut;
+use segment::entries::behind;
 use segment::entries::next;
 use segment::layout::digest_size;
 use segment::reader::edition_of;

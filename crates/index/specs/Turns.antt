@@ -176,10 +176,13 @@ module _ (L : Layout) (area : List ℕ) (S i at : ℕ) (cells : List ℕ) (n : �
           ∙ rest
 
       module _ (m : ℕ) (p : b ≡ Built.Keys m) where
-        pub slot-next : insertAll area S (placedIn L i (entriesAt L (segmentOf area S i) (at + h .length))) (counted after m) ≡ whole
+        -- behind is where the walk goes on
+        pub slot-next : (behind : ℕ) → behind ≡ at + h .length
+            → insertAll area S (placedIn L i (entriesAt L (segmentOf area S i) behind)) (counted after m) ≡ whole
         unfolding tallyOf
-        slot-next =
-            ap (λ (j : Built). insertAll area S (placedIn L i (entriesAt L (segmentOf area S i) (at + h .length))) (tallyOf j after)) (sym p) ∙ rest
+        slot-next behind on =
+            ap (λ (a : ℕ). insertAll area S (placedIn L i (entriesAt L (segmentOf area S i) a)) (counted after m)) on
+            ∙ ap (λ (j : Built). insertAll area S (placedIn L i (entriesAt L (segmentOf area S i) (at + h .length))) (tallyOf j after)) (sym p) ∙ rest
 
         pub slot-few : n ≤ length cells → m ≤ length after
         unfolding tallyOf Few

@@ -9,6 +9,7 @@ use segment::Key;
 use segment::Next;
 use segment::Version;
 use segment::area::cut;
+use segment::entries::behind;
 use segment::entries::next;
 use segment::layout::digest_size;
 use segment::reader::edition_of;
@@ -101,7 +102,7 @@ fn index_slot(
                     return Built::TooMany;
                 };
                 keys = n;
-                at += header.length;
+                at = behind(edition, at, header);
             }
             Next::End => {
                 return Built::Keys(keys);

@@ -3,10 +3,12 @@ use Prim.Native.Nat.{ℕ, _+_, _≤_, _<_}
 use mathlib.Core.Path.{_≡_, refl, sym, _∙_, ap}
 use mathlib.Core.Bool.{Bool, true, false}
 use mathlib.Core.List.{List}
+use mathlib.Core.Option.{Option, none, some}
 use native.Mathlib.Omega.{arith}
 use lib.ListN.{length}
-use Rattle.segment.specs.Layout.{Layout}
-use Rattle.segment.specs.Entry.{Entry, isTombstone, Found, entry, end, damage, entryAt, sizeOf, keyOf, answer}
+use Rattle.segment.specs.Choice.{isNone}
+use Rattle.segment.specs.Layout.{Layout, entrySize}
+use Rattle.segment.specs.Entry.{Entry, isTombstone, Found, entry, end, damage, entryAt, bytesIn, sizeOf, keyOf, answer}
 use Rattle.segment.specs.EntryLaws.{found-fits}
 use Rattle.segment.specs.AnswerLaws.{answer-end, answer-damage, answer-tombstone, answer-object}
 use Rattle.segment.specs.declared.Header.{Header}
@@ -21,6 +23,15 @@ unfoldable pub nextOf : Layout → Found → Next
 nextOf L (entry e) = N.Entry (headerOf L e)
 nextOf L end = N.End
 nextOf L damage = N.Damage
+
+-- a tombstone has no value, so that it is as long as the shortest entry
+pub tombstone-size : (L : Layout) (e : Entry) → isTombstone e ≡ true → sizeOf L e ≡ entrySize L 0
+unfolding isNone bytesIn
+tombstone-size L e = go (e .value)
+  where
+    go : (v : Option (List ℕ)) → isNone v ≡ true → entrySize L (length (bytesIn v)) ≡ entrySize L 0
+    go none t = refl
+    go (some b) t = let z : _≡_ {A = ℕ} 0 1 = cc in absurd (omega arith)
 
 -- ---- from the reader's answer
 
@@ -67,6 +78,12 @@ module _ (L : Layout) (s : List ℕ) (at : ℕ) (next : Next) (given : next ≡ 
       let size : sizeOf L e ≡ h .length = ap (λ (x : Header). x .length) q in
       let fits = found-fits L s at e p in
       (omega arith, omega arith)
+
+  -- the way to the next entry, where the header is a tombstone's
+  pub next-tombstone : (h : Header) → next ≡ N.Entry h → h .tombstone ≡ true → h .length ≡ entrySize L 0
+  next-tombstone h form t =
+      let (e, p, q) = next-entry h form in
+      sym (ap (λ (x : Header). x .length) q) ∙ tombstone-size L e (ap (λ (x : Header). x .tombstone) q ∙ t)
 
   pub next-end : next ≡ N.End → entryAt L s at ≡ end
   unfolding nextOf

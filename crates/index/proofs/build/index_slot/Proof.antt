@@ -5,6 +5,7 @@ use native.Mathlib.Omega.{arith}
 use lib.ListN.{length}
 use denote.Ref.{now}
 use borrow.Author.Needs.{needs}
+use Rattle.segment.specs.Entries.{next-tombstone}
 use Rattle.model.specs.Log.{segmentOf, placedIn}
 use Rattle.index.specs.Insert.{counted, insertAll}
 use Rattle.index.specs.Build.{entriesAt, slotEntries}
@@ -83,11 +84,16 @@ returns c =
     slot-over _ _ _ _ _ _ _ _ (l .loop .inv .2) _ (l .before .before .cut .ensures) _ (k .before .before .next .ensures) _ (k .header .given .1) _ _
     (i .index-entry .ensures) (c .enum-told .given .1)
 
-add-at : tie.Need-add-at Inv-loop μ-loop
-add-at c = omega (arith, fits (c .before .before .before .before .before .before .before .before .before .before .before))
+-- a segment is shorter than the bound of the way to the next entry, and a tombstone has no value
+behind-requires : tie.Need-behind-requires Inv-loop μ-loop
+behind-requires c κs =
+    let k = c .before .before .before .before .before .before .before .before .before .before in (
+      omega (arith, fits k),
+      next-tombstone _ _ _ _ (k .before .before .next .ensures) _ (k .header .given .1),
+    )
 
 loop-less : tie.Need-loop-less Inv-loop μ-loop
-loop-less c = omega (arith, fits (c .before .before .before .before .before .before .before .before .before .before .before))
+loop-less c = omega (arith, c .behind .ensures, fits (c .before .before .before .before .before .before .before .before .before .before .before))
 
 loop-again : tie.Need-loop-again Inv-loop μ-loop
 loop-again c =
@@ -98,7 +104,7 @@ loop-again c =
       slot-few _ _ _ _ _ _ _ _ (l .loop .inv .2) _ (l .before .before .cut .ensures) _ (k .before .before .next .ensures) _ (k .header .given .1) _ _ (i .index-entry .ensures) _
           (c .before .before .n .given .1) (l .loop .inv .1),
       slot-next _ _ _ _ _ _ _ _ (l .loop .inv .2) _ (l .before .before .cut .ensures) _ (k .before .before .next .ensures) _ (k .header .given .1) _ _ (i .index-entry .ensures) _
-          (c .before .before .n .given .1),
+          (c .before .before .n .given .1) _ (c .behind .ensures),
     )
 
 enum-told-2 : tie.Need-enum-told-2 Inv-loop μ-loop
@@ -141,7 +147,7 @@ index-slot-spec =
     enum-told
     same-length
     returns
-    add-at
+    behind-requires
     loop-less
     loop-again
     enum-told-2

@@ -1,8 +1,8 @@
--- `cleaning::behind::behind` meets its contract.
+-- `segment::entries::behind` meets its contract.
 use native.Mathlib.Omega.{arith}
 use borrow.Author.Needs.{needs}
-use Rattle.cleaning.proofs.behind.behind.Statement.{statement}
-use Rattle.cleaning.proofs.behind.behind.Tie as tie
+use Rattle.segment.proofs.entries.behind.Statement.{statement}
+use Rattle.segment.proofs.entries.behind.Tie as tie
 
 head-size-requires : tie.Need-head-size-requires
 head-size-requires c κs = search needs
