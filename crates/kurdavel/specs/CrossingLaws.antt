@@ -14,7 +14,6 @@ use Rattle.segment.specs.declared.Key.{Key}
 use Rattle.segment.specs.declared.Version.{Version}
 use Rattle.record.specs.Answers.{bare, formatSaid, recoverSaid, readSaid, startSaid, stepSaid, convertSaid}
 use Rattle.record.specs.Range.{inRange, lengthsOwn, fitsLent}
-use Rattle.record.specs.Switch.{switchSaid}
 use Rattle.record.specs.RangeLaws.{Lent, lent, blank-out}
 use Rattle.record.specs.declared.Refusal.{Refusal}
 use Rattle.record.specs.declared.Refusal.the-variants.{BadRecord}
@@ -29,11 +28,8 @@ use Rattle.record.specs.declared.StartAnswer.{StartAnswer}
 use Rattle.record.specs.declared.Stepped.{Stepped}
 use Rattle.record.specs.declared.StepAnswer.{StepAnswer}
 use Rattle.record.specs.declared.FewestAnswer.{FewestAnswer}
-use Rattle.record.specs.declared.SwitchAnswer.{SwitchAnswer}
-use Rattle.record.specs.declared.Switching.{Switching}
 use Rattle.model.specs.Recovery.{imageLayout}
 use Rattle.model.specs.Fewest.{fewestSlot}
-use Rattle.model.specs.Switching.{SwitchPromise}
 use Rattle.fullness.specs.FewestLaws.{refused-promise, told-promise}
 use Rattle.model.specs.Operations.{Operation}
 use Rattle.record.specs.Reach.{holdsTable}
@@ -50,7 +46,7 @@ use Rattle.recovery.specs.declared.Lookup.{Lookup}
 use Rattle.words.specs.Words.{recordWords, wordsOf, word, countsIn, recordIn, isRecord, decoded}
 use Rattle.words.specs.WordLaws.{record-long, counts-long, decoded-record, decoded-none, too-short, none-unfit, encode-decode, fits-record, fits-decoded}
 use Rattle.words.specs.declared.Decoded.{Decoded}
-use Rattle.kurdavel.specs.Crossing.{FormatCrossed, RecoverCrossed, wordsAfter, ReadCrossed, ValueCrossed, Handed, storesAfter, StartCrossed, keptWords, StepCrossed, leftTold, toldAfter, slotTold, FewestCrossed, ScanCrossed, ScanValueCrossed, ConvertCrossed, SwitchCrossed}
+use Rattle.kurdavel.specs.Crossing.{FormatCrossed, RecoverCrossed, wordsAfter, ReadCrossed, ValueCrossed, Handed, storesAfter, StartCrossed, keptWords, StepCrossed, leftTold, toldAfter, slotTold, FewestCrossed, ScanCrossed, ScanValueCrossed, ConvertCrossed}
 use Rattle.model.specs.Scanned.{ScanValue}
 use Rattle.model.specs.Conversion.{ConvertPromise}
 use Rattle.scanning.specs.Seeking.{sought, answerOf, partFor}
@@ -285,20 +281,6 @@ step-crossed {words = words} {left = left} {version = version} {x = x} f p w e m
       long = λ ok. w .1 (ap (λ (a : Decoded). a .ok) f ∙ ok);
     }
 
--- ---- the switch
-
-pub switch-crossed : {words words′ : List ℕ} {number : ℕ} {d : Decoded} {x : Switching} {b : SwitchAnswer} → d ≡ decoded words
-    → SwitchPromise (d .rec .edition) (d .rec) x → (words′ ≡ keptWords (d .ok) words (x .rec)) × (d .ok ≡ true → length (x .rec .counts) ≡ 32)
-    → x .answer ≡ b → number ≡ switchSaid b .refused → SwitchCrossed words words′ number
-switch-crossed {words = words} {x = x} f p w e m =
-    record {
-      switching = x;
-      promised = rw (ap (λ (a : Decoded). a .rec) f) at p;
-      numbered = m ∙ ap (λ (a : SwitchAnswer). switchSaid a .refused) (sym e);
-      says = w .0 ∙ ap (λ (a : Decoded). keptWords (a .ok) words (x .rec)) f;
-      long = λ ok. w .1 (ap (λ (a : Decoded). a .ok) f ∙ ok);
-    }
-
 -- ---- the slot with the fewest present bytes
 
 both-done : (t : Bool) → both t true ≡ t
@@ -317,7 +299,7 @@ own-tested r =
 pub none-range : (words : List ℕ) → isRecord words ≡ false → inRange (decoded words .rec .edition) (decoded words .rec) ≡ false
 none-range words f = ap (λ (d : Decoded). inRange (d .rec .edition) (d .rec)) (decoded-none words f) ∙ blank-out _
 
-words-range : (words : List ℕ)
+pub words-range : (words : List ℕ)
     → fitsLent (decoded words .rec .edition) (decoded words .rec) (word words 0 * word words 1) (word words 2) ≡ inRange (decoded words .rec .edition) (decoded words .rec)
 words-range words = turn (isRecord words) refl
   where

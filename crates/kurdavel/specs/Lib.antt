@@ -3,6 +3,7 @@ pub mod Crossing
 pub mod CrossingLaws
 pub mod StepOn
 pub mod StartOn
+pub mod SwitchOn
 pub mod NoRecord
 pub mod Foretold
 pub mod Joining

@@ -6,7 +6,7 @@ use mathlib.Core.List.{List, [], _∷_, _++_, append-nil}
 use mathlib.Core.Option.{Option, Option·elim, Option·getD}
 use native.Mathlib.Omega.{arith}
 use lib.Dec.{eqb, leb}
-use lib.ListN.{length, getD, set, replicate, take, drop, take-append-drop, length-drop, length-append}
+use lib.ListN.{length, getD, set, replicate, take, drop, take-append-drop, length-drop, length-append, length-set}
 use lib.Seq.{sets, sets-eq, length-sets, drop-cons, length-take-le, take-add, take-at, drop-set-lt}
 use borrow.Author.Tests.{leb-true, le-leb, lt-leb, eqb-true, eqb-false, eq-eqb, ne-eqb}
 use Rattle.segment.specs.Choice.{pick, pick-true, pick-false, both, both-left, both-right, both-false-left, both-false-right, both-true, either, isNone}
@@ -16,6 +16,7 @@ use Rattle.segment.specs.declared.Version.{Version}
 use Rattle.record.specs.Answers.{blank, bare, withPending}
 use Rattle.record.specs.Range.{between, leftGood, countsGood, mostPresent, lengthsOwn, fitsLent}
 use Rattle.record.specs.RangeLaws.{numbersGood, frontGood, front-numbers, fits-front, blank-unfit, stop, go}
+use Rattle.record.specs.Switch.{withSwitch}
 use Rattle.record.specs.declared.Pending.{Pending}
 use Rattle.record.specs.declared.Pending.the-variants.{Idle, Append, NewHead, Clean, Forget}
 use Rattle.record.specs.declared.Record.{Record}
@@ -456,6 +457,12 @@ module _ (w : List ℕ) (e : isRecord w ≡ true) where
   tests : both (editionFits (word w 10)) (both (switchFits (word w 11)) (pendingFits (word w 12) (word w 13) (word w 14) (word w 15) (word w 16))) ≡ true
   tests = sym (long-enough w (record-long w e)) ∙ e
 
+  -- the edition is 1 or 2
+  pub edition-either : (word w 10 ≡ 1 → ⊥) → word w 10 ≡ 2
+  edition-either d =
+      let f = sym (edition-between (word w 10)) ∙ both-left _ _ tests in
+      omega (arith, d, leb-true 1 (word w 10) (both-left _ _ f), leb-true (word w 10) 2 (both-right _ _ f))
+
   pub pending-words : pendingWords (recordIn w .pending) ≡ word w 12 ∷ word w 13 ∷ word w 14 ∷ word w 15 ∷ word w 16 ∷ []
   pending-words = pending-back (word w 12) (word w 13) (word w 14) (word w 15) (word w 16) (both-right _ _ (both-right _ _ tests))
 
@@ -500,3 +507,20 @@ module _ (w : List ℕ) (e : isRecord w ≡ true) where
         let same : sets w 12 (word w 12 ∷ word w 13 ∷ word w 14 ∷ word w 15 ∷ []) ≡ w =
         ap (λ (l : List ℕ). sets w 12 l) (sym (from-words w 12 4 (omega (arith, record-long w e)))) ∙ part-same w 12 4 (omega (arith, record-long w e)) in
         ap (λ (l : List ℕ). set l 16 j) (sym same) ∙ ap (λ (l : List ℕ). sets w 12 l) (sym f) ∙ pending-alone p
+
+    -- and where it differs in its switch alone, that word
+    pub switch-alone : (t : Bool) → set w 11 (switchNumber t) ≡ sets w 0 (wordsOf (withSwitch (recordIn w) t))
+    unfolding wordsFrom
+    switch-alone t =
+        let low : (word w 7 + 4294967296 * word w 8) % 4294967296 ≡ word w 7 = omega (arith, half) in
+        let high : (word w 7 + 4294967296 * word w 8) / 4294967296 ≡ word w 8 = omega (arith, half) in
+        let edition : numberOfLayout (editionOf (word w 10)) ≡ word w 10 = edition-number (word w 10) (both-left _ _ tests) in
+        let v = set w 11 (switchNumber t) in
+        let long : length v ≡ length w = length-set w 11 (switchNumber t) in
+        let behind : (n : ℕ) → 11 < n → drop n w ≡ drop n v = λ n h. sym (drop-set-lt n w 11 (switchNumber t) h) in
+        let first : word w 0 ∷ word w 1 ∷ word w 2 ∷ word w 3 ∷ word w 4 ∷ word w 5 ∷ word w 6 ∷ (word w 7 + 4294967296 * word w 8) % 4294967296 ∷ (word w 7 + 4294967296 * word w 8) / 4294967296 ∷ word w 9 ∷ numberOfLayout (editionOf (word w 10)) ∷ [] ≡ take 11 w =
+        sym (from-words w 0 11 (omega (arith, record-long w e)) ∙ cc) in
+        in-order w v v v (withSwitch (recordIn w) t)
+        (sym (ap (λ (l : List ℕ). set (sets w 0 l) 11 (switchNumber t)) first ∙ ap (λ (l : List ℕ). set l 11 (switchNumber t)) (part-same w 0 11 (omega (arith, record-long w e)))))
+        (sym (ap (λ (l : List ℕ). sets v 12 l) (pending-words ∙ sym (from-words w 12 5 (omega (arith, record-long w e))) ∙ ap (take 5) (behind 12 (omega arith))) ∙ part-same v 12 5 (omega (arith, record-long w e, long))))
+        (sym (ap (λ (l : List ℕ). sets v 17 (take 32 l)) (behind 17 (omega arith)) ∙ part-same v 17 32 (omega (arith, record-long w e, long))))

@@ -27,7 +27,7 @@ ghost use Rattle.words.specs.WordLaws.{leftFits};
 // How many words a record takes.
 pub const WORDS: usize = 49;
 
-// The words of S, of M, of the edition, of the switch and of the stores left.
+// The words of S, of M, of the edition, of the switch, and of the pending operation's tag and stores left.
 pub const SIZE: usize = 1;
 
 pub const CELLS: usize = 2;
@@ -35,6 +35,8 @@ pub const CELLS: usize = 2;
 pub const EDITION: usize = 10;
 
 pub const SWITCH: usize = 11;
+
+pub const TAG: usize = 12;
 
 pub const LEFT: usize = 16;
 

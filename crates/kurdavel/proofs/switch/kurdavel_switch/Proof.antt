@@ -1,53 +1,106 @@
 -- `kurdavel::switch::kurdavel_switch` meets its contract.
-use mathlib.Core.Path.{refl}
-use Rattle.kurdavel.specs.CrossingLaws.{ok-long, switch-crossed}
+use Prim.Native.Nat.{_<_}
+use native.Mathlib.Omega.{arith}
+use Rattle.word.specs.Laws.{product-lt}
+use Rattle.words.specs.Words.{word}
+use Rattle.kurdavel.specs.SwitchOn.{switch-few, switch-bad, switch-busy, switch-turned, switch-stays}
 use borrow.Author.Needs.{needs}
 use Rattle.kurdavel.proofs.switch.kurdavel_switch.Statement.{statement}
 use Rattle.kurdavel.proofs.switch.kurdavel_switch.Tie as tie
 
-decode-requires : tie.Need-decode-requires
-decode-requires c κs = search needs
+-- a word has 32 bits
+half : (k : tie.After-slice-known) → word (k .before .args .words .now) 7 < 4294967296
+half k = omega (arith, k .slice-known .given 7)
 
-switch-requires : tie.Need-switch-requires
-switch-requires c κs = search needs
+returns : tie.Need-returns
+returns c = switch-few _ (half (c .before)) (c .if1 .taken)
 
-keep-requires : tie.Need-keep-requires
-keep-requires c κs = λ ok. ok-long _ (c .before .before .before .before .decode .ensures) ok
+slice-read-area : tie.Need-slice-read-area
+slice-read-area c = search needs
 
-enum-told : tie.Need-enum-told
-enum-told c = search needs
+cast-area : tie.Need-cast-area
+cast-area c = omega (arith, c .slice-known2 .given 0)
 
-enum-known-answer : tie.Need-enum-known-answer
-enum-known-answer c = search needs
+slice-read-area-2 : tie.Need-slice-read-area-2
+slice-read-area-2 c = search needs
 
-number-requires : tie.Need-number-requires
-number-requires c κs = search needs
+cast-area-2 : tie.Need-cast-area-2
+cast-area-2 c = omega (arith, c .slice-known3 .given 1)
+
+mul-area : tie.Need-mul-area
+mul-area c = record { fits = product-lt (omega (arith, c .before .slice-known2 .given 0)) (omega (arith, c .slice-known3 .given 1)) }
+
+slice-read-cells : tie.Need-slice-read-cells
+slice-read-cells c = search needs
+
+cast-cells : tie.Need-cast-cells
+cast-cells c = omega (arith, c .slice-known4 .given 2)
+
+fits-requires : tie.Need-fits-requires
+fits-requires c κs = search needs
 
 same-length : tie.Need-same-length
 same-length c = search needs
 
-returns : tie.Need-returns
-returns c =
-    switch-crossed (c .before .before .before .before .before .before .before .before .before .decode .ensures) (c .before .before .before .before .before .before .before .switch .ensures) (c .before .before .before .before .keep .ensures) (c .enum-told .given .1) refl
+returns-2 : tie.Need-returns-2
+returns-2 c = switch-bad _ (half (c .before .before .before .before .before .before .before)) (c .before .fits2 .ensures) (c .if2 .taken)
+
+slice-read-if3 : tie.Need-slice-read-if3
+slice-read-if3 c = search needs
 
 same-length-2 : tie.Need-same-length-2
 same-length-2 c = search needs
 
-returns-2 : tie.Need-returns-2
-returns-2 c =
-    switch-crossed (c .before .before .before .before .before .before .before .before .before .before .before .decode .ensures) (c .before .before .before .before .before .before .before .before .before .switch .ensures) (c .before .before .before .before .before .before .keep .ensures) (c .before .before .answer .given .1) (c .number .ensures)
+returns-3 : tie.Need-returns-3
+returns-3 c =
+    let e = c .before .before in
+    switch-busy _ (half (e .before .before .before .before .before .before .before)) (e .before .fits2 .ensures) (e .if2 .left) (c .if3 .taken)
+
+slice-read-if4 : tie.Need-slice-read-if4
+slice-read-if4 c = search needs
+
+slice-write-words : tie.Need-slice-write-words
+slice-write-words c = search needs
+
+same-length-3 : tie.Need-same-length-3
+same-length-3 c = search needs
+
+returns-4 : tie.Need-returns-4
+returns-4 c =
+    let f = c .before .before in
+    let e = f .before .before in
+    switch-turned _ (half (e .before .before .before .before .before .before .before)) (e .before .fits2 .ensures) (e .if2 .left) (f .if3 .left) (c .if4 .taken)
+
+same-length-4 : tie.Need-same-length-4
+same-length-4 c = search needs
+
+returns-5 : tie.Need-returns-5
+returns-5 c =
+    let f = c .before .before in
+    let e = f .before .before in
+    switch-stays _ (half (e .before .before .before .before .before .before .before)) (e .before .fits2 .ensures) (e .if2 .left) (f .if3 .left) (c .if4 .left)
 
 pub kurdavel-switch-spec : {M : Type 1} → statement M
 kurdavel-switch-spec =
     tie.close
     (tie.spec
-    decode-requires
-    switch-requires
-    keep-requires
-    enum-told
-    enum-known-answer
-    number-requires
-    same-length
     returns
+    slice-read-area
+    cast-area
+    slice-read-area-2
+    cast-area-2
+    mul-area
+    slice-read-cells
+    cast-cells
+    fits-requires
+    same-length
+    returns-2
+    slice-read-if3
     same-length-2
-    returns-2)
+    returns-3
+    slice-read-if4
+    slice-write-words
+    same-length-3
+    returns-4
+    same-length-4
+    returns-5)
