@@ -126,9 +126,9 @@ impl Chosen {
         self.call(report, Call::ConditionalWriteStart, case, timing);
         let timing = store.time_start(delete, Ok(12));
         self.call(report, Call::DeleteStart, "start of a delete", timing);
-        let timing = self.one_entry_each().time_step(write, 66);
+        let timing = self.one_entry_each().time_steps(write, 66, 64);
         self.call(report, Call::MiddleStep, "a middle step of a write", timing);
-        let timing = store.time_step(write, 1);
+        let timing = store.time_steps(write, 1, 1);
         self.call(
             report,
             Call::LastStepOfWrite,
@@ -153,14 +153,14 @@ impl Chosen {
             false => self.tombstone(at),
         });
         let operation = Operation::Clean(1 << (LOG - 1));
-        let timing = Store::new(area.clone(), CELLS).time_step(operation, 1000);
+        let timing = Store::new(area.clone(), CELLS).time_steps(operation, 1000, 64);
         self.call(
             report,
             Call::MiddleStep,
             "a middle step of a cleaning",
             timing,
         );
-        let timing = Store::new(area.clone(), CELLS).time_step(operation, 1);
+        let timing = Store::new(area.clone(), CELLS).time_steps(operation, 1, 1);
         self.call(
             report,
             Call::LastStepOfCleaning,
@@ -178,7 +178,7 @@ impl Chosen {
         let timing = Store::new(area.clone(), CELLS).time_start(delete, Ok(stores));
         let case = "start of a delete in a full store";
         self.call(report, Call::FullDeleteStart, case, timing);
-        let timing = Store::new(area, CELLS).time_step(delete, 1);
+        let timing = Store::new(area, CELLS).time_steps(delete, 1, 1);
         let case = "last step of a delete in a full store";
         self.call(report, Call::LastStepOfCleaning, case, timing);
     }

@@ -220,9 +220,10 @@ impl Store {
         )
     }
 
-    /// Times the step with so many stores left, counting its own. Made again it stores the same byte, and makes of the
-    /// index what it made of it before, so that it can be repeated. The key of a write is one that has entries.
-    pub fn time_step(mut self, operation: Operation, left: u32) -> Timing {
+    /// Times so many steps, one after the other, the first of them with so many stores left, counting its own; gives the time of
+    /// one. Made again they store the same bytes, and make of the index what they made of it before, so that they can be
+    /// repeated with a copy of the record. The key of a write is one that has entries.
+    pub fn time_steps(mut self, operation: Operation, left: u32, count: u32) -> Timing {
         let (mut proved, stores) = self.start_proved(operation);
         let work = self.work.clone();
         let (mut reference, same) = self.start_reference(operation);
@@ -232,10 +233,21 @@ impl Store {
             self.step_reference(&mut reference);
         }
         assert_eq!((proved.left(), reference.pending.left()), (left, left));
-        compare(
+        let timing = compare(
             &mut self,
-            |store| store.step_proved(&mut proved.clone()),
-            |store| store.step_reference(&mut reference.clone()),
-        )
+            |store| {
+                let mut record = proved;
+                for _ in 0..count {
+                    store.step_proved(&mut record);
+                }
+            },
+            |store| {
+                let mut record = reference;
+                for _ in 0..count {
+                    store.step_reference(&mut record);
+                }
+            },
+        );
+        timing.each(count)
     }
 }

@@ -22,6 +22,17 @@ pub struct Timing {
     pub noise: f64,
 }
 
+impl Timing {
+    /// The times of one of so many that were timed together.
+    pub fn each(self, count: u32) -> Timing {
+        Timing {
+            proved: self.proved / f64::from(count),
+            reference: self.reference / f64::from(count),
+            ..self
+        }
+    }
+}
+
 /// Times both in turns, so that what slows the machine slows both.
 pub fn compare<S>(
     state: &mut S,
