@@ -11,6 +11,7 @@ pub mod KeptLaws
 pub mod KeptAlike
 pub mod Chosen
 pub mod ChosenLaws
+pub mod Runs
 pub mod Outside
 pub mod KeptModel
 pub mod Begun

@@ -2,6 +2,7 @@
 use crate::Split;
 use crate::chosen::is_chosen;
 use crate::kept::is_kept;
+use crate::runs::copy_runs;
 use log::head::same_edition;
 use log::slots::is_named;
 use segment::Edition;
@@ -149,7 +150,7 @@ fn copy_slot(
     }
 }
 
-// The same in the slot's own edition, nothing where it is no victim.
+// The same in the slot's own edition, nothing where it is no victim. What need not be rewritten is copied run by run.
 fn copy_victim(
     into: Edition,
     area: &[u8],
@@ -169,6 +170,9 @@ fn copy_victim(
         return to;
     }
     let edition = edition_of(cut(split.size, area, slot));
+    if same_edition(edition, into) {
+        return copy_runs(edition, area, chosen, split, slot, work, to);
+    }
     copy_slot(edition, into, area, chosen, split, slot, work, to)
 }
 

@@ -8,6 +8,7 @@ pub mod kept;
 pub mod marks;
 pub mod noted;
 pub mod outside;
+pub mod runs;
 pub mod tombstones;
 
 // N and S, and the log's slots in two parts: the victims and those outside of them.
