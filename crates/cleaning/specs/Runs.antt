@@ -1,13 +1,13 @@
 -- Chosen entries that stand one behind the other: where the slot is of the new head's edition, what is copied of them is one stretch of
 -- the area.
-use Prim.Native.Nat.{ℕ, _+_, _*_, _-_, _≤_, _<_}
+use Prim.Native.Nat.{ℕ, _+_, _*_, _-_, _≤_}
 use mathlib.Core.Path.{_≡_, sym, _∙_, ap, subst}
 use mathlib.Core.Bool.{true, false}
 use mathlib.Core.List.{List, [], _++_, append-assoc}
 use native.Mathlib.Omega.{arith}
 use lib.ListN.{length, take, drop}
 use lib.Seq.{sets, take-add, drop-drop}
-use Rattle.segment.specs.Layout.{Layout, sameLayout}
+use Rattle.segment.specs.Layout.{Layout}
 use Rattle.segment.specs.LayoutLaws.{layout-same}
 use Rattle.segment.specs.Packed.{length-part}
 use Rattle.segment.specs.Copied.{Copied}

@@ -16,7 +16,8 @@ ghost use Rattle.model.specs.Log.{segmentOf};
 ghost use Rattle.cleaning.specs.Chosen.{ChosenFits, chosenSlot};
 ghost use Rattle.cleaning.specs.Runs.{Run};
 
-// The offset behind the chosen entries that stand one behind the other from an offset on.
+// The offset behind the chosen entries that stand one behind the other from an offset on. That it goes as far as it can is for speed
+// alone: a shorter run copies the same bytes.
 fn run_behind(
     edition: Edition,
     area: &[u8],

@@ -28,6 +28,7 @@ use Rattle.record.specs.declared.StartAnswer.{StartAnswer}
 use Rattle.record.specs.declared.Stepped.{Stepped}
 use Rattle.record.specs.declared.StepAnswer.{StepAnswer}
 use Rattle.record.specs.declared.FewestAnswer.{FewestAnswer}
+use Rattle.laws.specs.Members.{clash}
 use Rattle.model.specs.Recovery.{imageLayout}
 use Rattle.model.specs.Fewest.{fewestSlot}
 use Rattle.fullness.specs.FewestLaws.{refused-promise, told-promise}
@@ -299,6 +300,10 @@ own-tested r =
 pub none-range : (words : List ℕ) → isRecord words ≡ false → inRange (decoded words .rec .edition) (decoded words .rec) ≡ false
 none-range words f = ap (λ (d : Decoded). inRange (d .rec .edition) (d .rec)) (decoded-none words f) ∙ blank-out _
 
+-- nor is one of too few words
+pub few-range : (words : List ℕ) → length words < recordWords → false ≡ inRange (decoded words .rec .edition) (decoded words .rec)
+few-range words h = sym (none-range words (too-short words h))
+
 pub words-range : (words : List ℕ)
     → fitsLent (decoded words .rec .edition) (decoded words .rec) (word words 0 * word words 1) (word words 2) ≡ inRange (decoded words .rec .edition) (decoded words .rec)
 words-range words = turn (isRecord words) refl
@@ -310,46 +315,52 @@ words-range words = turn (isRecord words) refl
         (sym (decoded-record words f)) (own-tested (recordIn words))
     turn false f = none-unfit _ words (word words 0 * word words 1) (word words 2) f ∙ sym (none-range words f)
 
-module _ (words : List ℕ) where
-  refused-fewest : inRange (decoded words .rec .edition) (decoded words .rec) ≡ false → FewestCrossed words 0 4
+-- t is what the code finds for the range
+module _ (words : List ℕ) {t : Bool} (tested : t ≡ inRange (decoded words .rec .edition) (decoded words .rec)) where
+  pub range-out : not t ≡ true → inRange (decoded words .rec .edition) (decoded words .rec) ≡ false
+  range-out e = sym tested ∙ not-true t e
+
+  module _ (passed : not t ≡ false) where
+    pub range-in : inRange (decoded words .rec .edition) (decoded words .rec) ≡ true
+    range-in = sym tested ∙ not-false t passed
+
+    pub range-are : isRecord words ≡ true
+    range-are = go (isRecord words) refl
+      where
+        go : (r : Bool) → isRecord words ≡ r → isRecord words ≡ true
+        go true f = f
+        go false f = absurd (clash _ range-in (none-range words f))
+
+    pub range-said : decoded words ≡ record { ok = true; rec = recordIn words }
+    range-said = decoded-record words range-are
+
+    pub range-lent : Lent (recordIn words .edition) (recordIn words) (word words 0 * word words 1) (word words 2)
+    range-lent =
+        lent (recordIn words .edition) (recordIn words) (word words 0 * word words 1) (word words 2)
+        (own-tested (recordIn words) ∙ ap (λ (d : Decoded). inRange (d .rec .edition) (d .rec)) (sym range-said) ∙ range-in)
+
+    pub range-counts : length (countsIn words) ≡ 32
+    range-counts = counts-long words range-are
+
+module _ (words : List ℕ) {t : Bool} (tested : t ≡ inRange (decoded words .rec .edition) (decoded words .rec)) where
+  pub fewest-bad : not t ≡ true → FewestCrossed words 0 4
   unfolding slotTold
-  refused-fewest e =
+  fewest-bad e =
       record {
         fewest = record { answer = FewestAnswer.Refused BadRecord; rec = decoded words .rec };
-        promised = refused-promise (decoded words .rec .edition) (decoded words .rec) e;
+        promised = refused-promise (decoded words .rec .edition) (decoded words .rec) (range-out words tested e);
         numbered = refl;
         slot-told = refl;
       }
 
-  pub fewest-few : length words < recordWords → FewestCrossed words 0 4
-  fewest-few h = refused-fewest (none-range words (too-short words h))
-
-  -- t is what the code finds for the range
-  module _ {t : Bool} (tested : t ≡ fitsLent (decoded words .rec .edition) (decoded words .rec) (word words 0 * word words 1) (word words 2)) where
-    pub fewest-bad : not t ≡ true → FewestCrossed words 0 4
-    fewest-bad e = refused-fewest (sym (tested ∙ words-range words) ∙ not-true t e)
-
-    module _ (passed : not t ≡ false) where
-      in-range : inRange (decoded words .rec .edition) (decoded words .rec) ≡ true
-      in-range = sym (tested ∙ words-range words) ∙ not-false t passed
-
-      said : decoded words ≡ record { ok = true; rec = recordIn words }
-      said = fits-decoded _ words (word words 0 * word words 1) (word words 2) (sym tested ∙ not-false t passed)
-
-      pub fewest-counts : length (countsIn words) ≡ 32
-      fewest-counts = counts-long words (fits-record _ words (word words 0 * word words 1) (word words 2) (sym tested ∙ not-false t passed))
-
-      pub fewest-lent : Lent (recordIn words .edition) (recordIn words) (word words 0 * word words 1) (word words 2)
-      fewest-lent =
-          lent (recordIn words .edition) (recordIn words) (word words 0 * word words 1) (word words 2)
-          (ap (λ (d : Decoded). fitsLent (d .rec .edition) (d .rec) (word words 0 * word words 1) (word words 2)) (sym said) ∙ sym tested ∙ not-false t passed)
-
-      pub fewest-told : {slot : ℕ} → slot ≡ fewestSlot (recordIn words) → FewestCrossed words slot 0
-      unfolding slotTold
-      fewest-told {slot} e =
-          record {
-            fewest = record { answer = FewestAnswer.Slot slot; rec = decoded words .rec };
-            promised = told-promise (decoded words .rec .edition) (decoded words .rec) slot in-range (e ∙ ap (λ (d : Decoded). fewestSlot (d .rec)) (sym said));
-            numbered = refl;
-            slot-told = refl;
-          }
+  pub fewest-told : not t ≡ false → {slot : ℕ} → slot ≡ fewestSlot (recordIn words) → FewestCrossed words slot 0
+  unfolding slotTold
+  fewest-told passed {slot} e =
+      record {
+        fewest = record { answer = FewestAnswer.Slot slot; rec = decoded words .rec };
+        promised =
+            told-promise (decoded words .rec .edition) (decoded words .rec) slot (range-in words tested passed)
+            (e ∙ ap (λ (d : Decoded). fewestSlot (d .rec)) (sym (range-said words tested passed)));
+        numbered = refl;
+        slot-told = refl;
+      }

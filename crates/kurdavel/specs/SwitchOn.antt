@@ -1,14 +1,13 @@
 -- The switch on the words of the record as they are: what the code has found, case by case.
-use Prim.Native.Nat.{ℕ, _*_, _<_}
+use Prim.Native.Nat.{ℕ, _<_}
 use mathlib.Core.Path.{_≡_, refl, sym, ap, _∙_}
 use mathlib.Core.Bool.{Bool, true, false, not}
 use mathlib.Core.List.{List, [], _∷_}
 use native.Mathlib.Omega.{arith}
-use lib.ListN.{length, set}
+use lib.ListN.{set}
 use lib.Seq.{sets}
-use borrow.Author.Tests.{not-true, not-false}
 use Rattle.segment.specs.Choice.{pick}
-use Rattle.record.specs.Range.{inRange, fitsLent}
+use Rattle.record.specs.Range.{inRange}
 use Rattle.record.specs.Switch.{switchedOn, switch-first, switch-second}
 use Rattle.record.specs.declared.Pending.{Pending}
 use Rattle.record.specs.declared.Pending.the-variants.{Idle, Append, NewHead, Clean, Forget}
@@ -17,11 +16,11 @@ use Rattle.record.specs.declared.Refusal.the-variants.{BadRecord, Busy}
 use Rattle.record.specs.declared.SwitchAnswer.{SwitchAnswer}
 use Rattle.model.specs.Switching.{switching}
 use Rattle.switching.specs.SwitchLaws.{bad-promise, busy-promise, taken-promise}
-use Rattle.words.specs.Words.{recordWords, pendingWords, wordsOf, word, recordIn, isRecord, switchNumber, decoded}
-use Rattle.words.specs.WordLaws.{too-short, first-of, second-of, edition-either, fits-record, fits-decoded, pending-words, encode-decode, switch-alone}
+use Rattle.words.specs.Words.{pendingWords, wordsOf, word, recordIn, isRecord, switchNumber, decoded}
+use Rattle.words.specs.WordLaws.{first-of, second-of, edition-either, pending-words, encode-decode, switch-alone}
 use Rattle.words.specs.declared.Decoded.{Decoded}
 use Rattle.kurdavel.specs.Crossing.{SwitchCrossed}
-use Rattle.kurdavel.specs.CrossingLaws.{none-range, words-range, same-words, said-long, kept-on}
+use Rattle.kurdavel.specs.CrossingLaws.{range-out, range-in, range-are, range-said, same-words, said-long, kept-on}
 
 -- an operation whose first word is 0 is none, and only that
 idle-word : (p : Pending) {t s v n k : ℕ} → pendingWords p ≡ t ∷ s ∷ v ∷ n ∷ k ∷ [] → t ≡ 0 → p ≡ Idle
@@ -35,38 +34,25 @@ word-idle : (p : Pending) {t s v n k : ℕ} → pendingWords p ≡ t ∷ s ∷ v
 word-idle p e i = let f : pendingWords p ≡ 0 ∷ 0 ∷ 0 ∷ 0 ∷ 0 ∷ [] = ap (λ (q : Pending). pendingWords q) i in cc
 
 module _ (words : List ℕ) (half : word words 7 < 4294967296) where
-  -- the words stay as they are
-  refused-switch : inRange (decoded words .rec .edition) (decoded words .rec) ≡ false → SwitchCrossed words words 4
-  unfolding switching
-  refused-switch e =
-      record {
-        switching = record { answer = SwitchAnswer.Refused BadRecord; rec = decoded words .rec };
-        promised = bad-promise _ _ _ e refl;
-        numbered = refl;
-        says = same-words words half;
-        long = said-long words;
-      }
-
-  pub switch-few : length words < recordWords → SwitchCrossed words words 4
-  switch-few h = refused-switch (none-range words (too-short words h))
-
   -- t is what the code finds for the range
-  module _ {t : Bool} (tested : t ≡ fitsLent (decoded words .rec .edition) (decoded words .rec) (word words 0 * word words 1) (word words 2)) where
+  module _ {t : Bool} (tested : t ≡ inRange (decoded words .rec .edition) (decoded words .rec)) where
     pub switch-bad : not t ≡ true → SwitchCrossed words words 4
-    switch-bad e = refused-switch (sym (tested ∙ words-range words) ∙ not-true t e)
+    unfolding switching
+    switch-bad e =
+        record {
+          switching = record { answer = SwitchAnswer.Refused BadRecord; rec = decoded words .rec };
+          promised = bad-promise _ _ _ (range-out words tested e) refl;
+          numbered = refl;
+          says = same-words words half;
+          long = said-long words;
+        }
 
     module _ (passed : not t ≡ false) where
-      in-range : inRange (decoded words .rec .edition) (decoded words .rec) ≡ true
-      in-range = sym (tested ∙ words-range words) ∙ not-false t passed
-
       are : isRecord words ≡ true
-      are = fits-record _ words (word words 0 * word words 1) (word words 2) (sym tested ∙ not-false t passed)
-
-      said : decoded words ≡ record { ok = true; rec = recordIn words }
-      said = fits-decoded _ words (word words 0 * word words 1) (word words 2) (sym tested ∙ not-false t passed)
+      are = range-are words tested passed
 
       said-rec : decoded words .rec ≡ recordIn words
-      said-rec = ap (λ (d : Decoded). d .rec) said
+      said-rec = ap (λ (d : Decoded). d .rec) (range-said words tested passed)
 
       said-pending : decoded words .rec .pending ≡ recordIn words .pending
       said-pending = ap (λ (r : Record). r .pending) said-rec
@@ -76,7 +62,7 @@ module _ (words : List ℕ) (half : word words 7 < 4294967296) where
       switch-busy d =
           record {
             switching = record { answer = SwitchAnswer.Refused Busy; rec = decoded words .rec };
-            promised = busy-promise _ _ _ in-range (λ i. d (word-idle (recordIn words .pending) (pending-words words are) (sym said-pending ∙ i))) refl;
+            promised = busy-promise _ _ _ (range-in words tested passed) (λ i. d (word-idle (recordIn words .pending) (pending-words words are) (sym said-pending ∙ i))) refl;
             numbered = refl;
             says = same-words words half;
             long = said-long words;
@@ -89,10 +75,10 @@ module _ (words : List ℕ) (half : word words 7 < 4294967296) where
         done words′ w =
             record {
               switching = record { answer = SwitchAnswer.Switched; rec = switchedOn (decoded words .rec) };
-              promised = taken-promise _ _ _ in-range (said-pending ∙ idle-word (recordIn words .pending) (pending-words words are) idle) refl;
+              promised = taken-promise _ _ _ (range-in words tested passed) (said-pending ∙ idle-word (recordIn words .pending) (pending-words words are) idle) refl;
               numbered = refl;
               says =
-                  kept-on words words′ (switchedOn (decoded words .rec)) (ap (λ (d : Decoded). d .ok) said)
+                  kept-on words words′ (switchedOn (decoded words .rec)) (ap (λ (d : Decoded). d .ok) (range-said words tested passed))
                   (w ∙ ap (λ (r : Record). sets words 0 (wordsOf (switchedOn r))) (sym said-rec));
               long = said-long words;
             }

@@ -7,8 +7,8 @@ use mathlib.Core.Option.{Option, Option·elim, Option·getD}
 use native.Mathlib.Omega.{arith}
 use lib.Dec.{eqb, leb}
 use lib.ListN.{length, getD, set, replicate, take, drop, take-append-drop, length-drop, length-append, length-set}
-use lib.Seq.{sets, sets-eq, length-sets, drop-cons, length-take-le, take-add, take-at, drop-set-lt}
-use borrow.Author.Tests.{leb-true, le-leb, lt-leb, eqb-true, eqb-false, eq-eqb, ne-eqb}
+use lib.Seq.{sets, sets-eq, length-sets, drop-cons, length-take-le, take-add, take-at, drop-set-lt, set-getD}
+use borrow.Author.Tests.{leb-true, le-leb, lt-leb, eqb-true, eq-eqb, ne-eqb}
 use Rattle.segment.specs.Choice.{pick, pick-true, pick-false, both, both-left, both-right, both-false-left, both-false-right, both-true, either, isNone}
 use Rattle.segment.specs.Layout.{Layout, edition1, edition2, layoutNumbered, numberOfLayout}
 use Rattle.segment.specs.LayoutLaws.{numbered-layout}
@@ -482,15 +482,23 @@ module _ (w : List ℕ) (e : isRecord w ≡ true) where
 
   -- the words have 32 bits, of which the lower half of the next version has to be one
   module _ (half : word w 7 < 4294967296) where
-    numbers-same : sets w 0 (numberWords (recordIn w)) ≡ w
+    -- the numbers before the switch are the words that say them, so that with any switch one word is another
+    numbers-turned : (t : Bool) → sets w 0 (numberWords (withSwitch (recordIn w) t)) ≡ set w 11 (switchNumber t)
     unfolding wordsFrom
-    numbers-same =
+    numbers-turned t =
         let low : (word w 7 + 4294967296 * word w 8) % 4294967296 ≡ word w 7 = omega (arith, half) in
         let high : (word w 7 + 4294967296 * word w 8) / 4294967296 ≡ word w 8 = omega (arith, half) in
         let edition : numberOfLayout (editionOf (word w 10)) ≡ word w 10 = edition-number (word w 10) (both-left _ _ tests) in
-        let switch : switchNumber (switchOf (word w 11)) ≡ word w 11 = switch-number (word w 11) (both-left _ _ (both-right _ _ tests)) in
-        let same : numberWords (recordIn w) ≡ take 12 w = sym (from-words w 0 12 (omega (arith, record-long w e)) ∙ cc) in
-        ap (λ (l : List ℕ). sets w 0 l) same ∙ part-same w 0 12 (omega (arith, record-long w e))
+        let first : word w 0 ∷ word w 1 ∷ word w 2 ∷ word w 3 ∷ word w 4 ∷ word w 5 ∷ word w 6 ∷ (word w 7 + 4294967296 * word w 8) % 4294967296 ∷ (word w 7 + 4294967296 * word w 8) / 4294967296 ∷ word w 9 ∷ numberOfLayout (editionOf (word w 10)) ∷ [] ≡ take 11 w =
+        sym (from-words w 0 11 (omega (arith, record-long w e)) ∙ cc) in
+        ap (λ (l : List ℕ). set (sets w 0 l) 11 (switchNumber t)) first
+        ∙ ap (λ (l : List ℕ). set l 11 (switchNumber t)) (part-same w 0 11 (omega (arith, record-long w e)))
+
+    numbers-same : sets w 0 (numberWords (recordIn w)) ≡ w
+    numbers-same =
+        numbers-turned (switchOf (word w 11))
+        ∙ ap (set w 11) (switch-number (word w 11) (both-left _ _ (both-right _ _ tests)))
+        ∙ set-getD w 11 0
 
     -- Where a record differs from what the words say in its pending operation alone, its words are these with that operation's.
     pub pending-alone : (p : Pending) → sets w 12 (pendingWords p) ≡ sets w 0 (wordsOf (withPending (recordIn w) p))
@@ -512,15 +520,9 @@ module _ (w : List ℕ) (e : isRecord w ≡ true) where
     pub switch-alone : (t : Bool) → set w 11 (switchNumber t) ≡ sets w 0 (wordsOf (withSwitch (recordIn w) t))
     unfolding wordsFrom
     switch-alone t =
-        let low : (word w 7 + 4294967296 * word w 8) % 4294967296 ≡ word w 7 = omega (arith, half) in
-        let high : (word w 7 + 4294967296 * word w 8) / 4294967296 ≡ word w 8 = omega (arith, half) in
-        let edition : numberOfLayout (editionOf (word w 10)) ≡ word w 10 = edition-number (word w 10) (both-left _ _ tests) in
         let v = set w 11 (switchNumber t) in
         let long : length v ≡ length w = length-set w 11 (switchNumber t) in
         let behind : (n : ℕ) → 11 < n → drop n w ≡ drop n v = λ n h. sym (drop-set-lt n w 11 (switchNumber t) h) in
-        let first : word w 0 ∷ word w 1 ∷ word w 2 ∷ word w 3 ∷ word w 4 ∷ word w 5 ∷ word w 6 ∷ (word w 7 + 4294967296 * word w 8) % 4294967296 ∷ (word w 7 + 4294967296 * word w 8) / 4294967296 ∷ word w 9 ∷ numberOfLayout (editionOf (word w 10)) ∷ [] ≡ take 11 w =
-        sym (from-words w 0 11 (omega (arith, record-long w e)) ∙ cc) in
-        in-order w v v v (withSwitch (recordIn w) t)
-        (sym (ap (λ (l : List ℕ). set (sets w 0 l) 11 (switchNumber t)) first ∙ ap (λ (l : List ℕ). set l 11 (switchNumber t)) (part-same w 0 11 (omega (arith, record-long w e)))))
+        in-order w v v v (withSwitch (recordIn w) t) (sym (numbers-turned t))
         (sym (ap (λ (l : List ℕ). sets v 12 l) (pending-words ∙ sym (from-words w 12 5 (omega (arith, record-long w e))) ∙ ap (take 5) (behind 12 (omega arith))) ∙ part-same v 12 5 (omega (arith, record-long w e, long))))
         (sym (ap (λ (l : List ℕ). sets v 17 (take 32 l)) (behind 17 (omega arith)) ∙ part-same v 17 32 (omega (arith, record-long w e, long))))

@@ -332,7 +332,7 @@ pub fn fits(words: &[u32], area: usize, index: usize) -> bool
         return false;
     }
     let front = front_in(words);
-    if !front_fits(front, words[12], words[LEFT]) {
+    if !front_fits(front, words[TAG], words[LEFT]) {
         return false;
     }
     if !lengths_own(front, area, index) {

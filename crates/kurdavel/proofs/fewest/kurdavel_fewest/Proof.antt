@@ -1,13 +1,14 @@
 -- `kurdavel::fewest::kurdavel_fewest` meets its contract.
+use mathlib.Core.Path.{refl, _∙_}
 use native.Mathlib.Omega.{arith}
 use Rattle.word.specs.Laws.{product-lt}
-use Rattle.kurdavel.specs.CrossingLaws.{fewest-few, fewest-bad, fewest-counts, fewest-lent, fewest-told}
+use Rattle.kurdavel.specs.CrossingLaws.{words-range, few-range, range-lent, range-counts, fewest-bad, fewest-told}
 use borrow.Author.Needs.{needs}
 use Rattle.kurdavel.proofs.fewest.kurdavel_fewest.Statement.{statement}
 use Rattle.kurdavel.proofs.fewest.kurdavel_fewest.Tie as tie
 
 returns : tie.Need-returns
-returns c = fewest-few (c .before .before .args .words .now) (c .if1 .taken)
+returns c = fewest-bad _ (few-range _ (c .if1 .taken)) refl
 
 shared-slice-read-area : tie.Need-shared-slice-read-area
 shared-slice-read-area c = search needs
@@ -34,7 +35,7 @@ fits-requires : tie.Need-fits-requires
 fits-requires c κs = search needs
 
 returns-2 : tie.Need-returns-2
-returns-2 c = fewest-bad (c .before .before .before .before .before .before .before .args .words .now) (c .before .fits2 .ensures) (c .if2 .taken)
+returns-2 c = fewest-bad (c .before .before .before .before .before .before .before .args .words .now) (c .before .fits2 .ensures ∙ words-range _) (c .if2 .taken)
 
 shared-slice-read-fewest-slot : tie.Need-shared-slice-read-fewest-slot
 shared-slice-read-fewest-slot c = search needs
@@ -58,13 +59,14 @@ fewest-slot-requires : tie.Need-fewest-slot-requires
 fewest-slot-requires c κs =
     let e = c .before .before .before .before in
     let w = e .before .before .before .before .before .before .before .args .words .now in
-    let l = fewest-lent w (e .before .fits2 .ensures) (e .if2 .left) in
-    (l .slots-high, omega (arith, l .slots-high, fewest-counts w (e .before .fits2 .ensures) (e .if2 .left)), l .head-below, l .head-named)
+    let in-range = e .before .fits2 .ensures ∙ words-range w in
+    let l = range-lent w in-range (e .if2 .left) in
+    (l .slots-high, omega (arith, l .slots-high, range-counts w in-range (e .if2 .left)), l .head-below, l .head-named)
 
 returns-3 : tie.Need-returns-3
 returns-3 c =
     let e = c .before .before .before .before .before in
-    fewest-told (e .before .before .before .before .before .before .before .args .words .now) (e .before .fits2 .ensures) (e .if2 .left) (c .fewest-slot .ensures)
+    fewest-told (e .before .before .before .before .before .before .before .args .words .now) (e .before .fits2 .ensures ∙ words-range _) (e .if2 .left) (c .fewest-slot .ensures)
 
 pub kurdavel-fewest-spec : {M : Type 1} → statement M
 kurdavel-fewest-spec =

@@ -1,9 +1,11 @@
 -- `kurdavel::switch::kurdavel_switch` meets its contract.
 use Prim.Native.Nat.{_<_}
+use mathlib.Core.Path.{refl, _∙_}
 use native.Mathlib.Omega.{arith}
 use Rattle.word.specs.Laws.{product-lt}
 use Rattle.words.specs.Words.{word}
-use Rattle.kurdavel.specs.SwitchOn.{switch-few, switch-bad, switch-busy, switch-turned, switch-stays}
+use Rattle.kurdavel.specs.CrossingLaws.{words-range, few-range}
+use Rattle.kurdavel.specs.SwitchOn.{switch-bad, switch-busy, switch-turned, switch-stays}
 use borrow.Author.Needs.{needs}
 use Rattle.kurdavel.proofs.switch.kurdavel_switch.Statement.{statement}
 use Rattle.kurdavel.proofs.switch.kurdavel_switch.Tie as tie
@@ -13,7 +15,7 @@ half : (k : tie.After-slice-known) → word (k .before .args .words .now) 7 < 42
 half k = omega (arith, k .slice-known .given 7)
 
 returns : tie.Need-returns
-returns c = switch-few _ (half (c .before)) (c .if1 .taken)
+returns c = switch-bad _ (half (c .before)) (few-range _ (c .if1 .taken)) refl
 
 slice-read-area : tie.Need-slice-read-area
 slice-read-area c = search needs
@@ -43,7 +45,7 @@ same-length : tie.Need-same-length
 same-length c = search needs
 
 returns-2 : tie.Need-returns-2
-returns-2 c = switch-bad _ (half (c .before .before .before .before .before .before .before)) (c .before .fits2 .ensures) (c .if2 .taken)
+returns-2 c = switch-bad _ (half (c .before .before .before .before .before .before .before)) (c .before .fits2 .ensures ∙ words-range _) (c .if2 .taken)
 
 slice-read-if3 : tie.Need-slice-read-if3
 slice-read-if3 c = search needs
@@ -54,7 +56,7 @@ same-length-2 c = search needs
 returns-3 : tie.Need-returns-3
 returns-3 c =
     let e = c .before .before in
-    switch-busy _ (half (e .before .before .before .before .before .before .before)) (e .before .fits2 .ensures) (e .if2 .left) (c .if3 .taken)
+    switch-busy _ (half (e .before .before .before .before .before .before .before)) (e .before .fits2 .ensures ∙ words-range _) (e .if2 .left) (c .if3 .taken)
 
 slice-read-if4 : tie.Need-slice-read-if4
 slice-read-if4 c = search needs
@@ -69,7 +71,7 @@ returns-4 : tie.Need-returns-4
 returns-4 c =
     let f = c .before .before in
     let e = f .before .before in
-    switch-turned _ (half (e .before .before .before .before .before .before .before)) (e .before .fits2 .ensures) (e .if2 .left) (f .if3 .left) (c .if4 .taken)
+    switch-turned _ (half (e .before .before .before .before .before .before .before)) (e .before .fits2 .ensures ∙ words-range _) (e .if2 .left) (f .if3 .left) (c .if4 .taken)
 
 same-length-4 : tie.Need-same-length-4
 same-length-4 c = search needs
@@ -78,7 +80,7 @@ returns-5 : tie.Need-returns-5
 returns-5 c =
     let f = c .before .before in
     let e = f .before .before in
-    switch-stays _ (half (e .before .before .before .before .before .before .before)) (e .before .fits2 .ensures) (e .if2 .left) (f .if3 .left) (c .if4 .left)
+    switch-stays _ (half (e .before .before .before .before .before .before .before)) (e .before .fits2 .ensures ∙ words-range _) (e .if2 .left) (f .if3 .left) (c .if4 .left)
 
 pub kurdavel-switch-spec : {M : Type 1} → statement M
 kurdavel-switch-spec =
