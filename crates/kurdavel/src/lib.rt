@@ -1,7 +1,7 @@
 // The store for a firmware in C or Rust (include/kurdavel.h): its calls and the value reads, over slices and numbers.
-// The reads, the start of a write, the step, the next store told, the switch and the question for the emptiest slot go by the record's words
-// as they are; the others decode the record from them, make the call, and encode what it hands back. Nothing is required of the caller's values: words that are no record are refused with 4. The
-// answer is 0 or the refusal's number.
+// The reads, the start of a write, the step, the next store told, the switch and the question for the emptiest slot go by the record's
+// words as they are; the others decode the record from them, make the call, and encode what it hands back. Nothing is required of the
+// caller's values: words that are no record are refused with 4. The answer is 0 or the refusal's number.
 use index::search::search;
 use position::from_float;
 use position::hand_over;
