@@ -6,7 +6,7 @@ ghost use Rattle.segment.specs.Entry.{entry_at};
 ghost use Rattle.segment.specs.Entries.{next_of};
 ghost use Rattle.cleaning.specs.ByKind.{KindStands};
 
-use log::head::same_edition;
+use drive_log::head::same_edition;
 use segment::layout::good_version;
 use segment::reader::version_at;
 use segment::{Edition, Header, Key, Next};

@@ -10,7 +10,7 @@ use crate::chosen::choose;
 use crate::marks::is_marked;
 use index::Found;
 use index::search::search;
-use log::slots::is_named;
+use drive_log::slots::is_named;
 use segment::area::cut;
 use segment::entries::{behind, next};
 use segment::layout::{digest_size, head_size};

@@ -1,5 +1,7 @@
 // The start of a cleaning: what is kept of the victims' slots is measured, and then laid out in the work buffer behind the
 // digest of a new head.
+#![tactic(auto)]
+
 pub mod by_kind;
 pub mod chosen;
 pub mod clean;
@@ -13,7 +15,7 @@ pub mod runs;
 pub mod tombstones;
 
 // N and S, and the log's slots in two parts: the victims and those outside of them.
-#[derive(Drop)]
+#[derive(Clone, Copy)]
 pub struct Split {
     pub slots: usize,
     pub size: usize,

@@ -8,7 +8,7 @@ ghost use Rattle.cleaning.specs.Filter.{note_entry, note_victims};
 
 use crate::Split;
 use crate::filter::put;
-use log::slots::is_named;
+use drive_log::slots::is_named;
 use segment::area::cut;
 use segment::entries::{behind, next};
 use segment::layout::digest_size;

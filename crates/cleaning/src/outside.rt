@@ -15,7 +15,7 @@ use crate::noted::note_victims;
 use crate::tombstones::any_tombstone;
 use index::Found;
 use index::search::search;
-use log::slots::is_named;
+use drive_log::slots::is_named;
 use segment::area::cut;
 use segment::layout::digest_size;
 use segment::reader::edition_of;

@@ -6,7 +6,7 @@ ghost use Rattle.cleaning.specs.Entries.{SlotsFit};
 ghost use Rattle.cleaning.specs.Tombstones.{tombstone_in, victim_holds, any_tombstone};
 
 use crate::Split;
-use log::slots::is_named;
+use drive_log::slots::is_named;
 use segment::area::cut;
 use segment::entries::{behind, next};
 use segment::layout::digest_size;

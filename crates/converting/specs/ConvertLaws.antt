@@ -21,7 +21,7 @@ use Rattle.model.specs.Promises.{area_unless}
 use Rattle.laws.specs.CauseLaws.{cause-first, cause-skip, first_some, first-none}
 use Rattle.laws.specs.Passed.{image-passed}
 use Rattle.laws.specs.LogLaws.{names-digests}
-use Rattle.log.specs.Shape.{Shape}
+use Rattle.drive_log.specs.Shape.{Shape}
 use Rattle.recovery.specs.FormatLaws.{geometry-fits}
 use Rattle.recovery.specs.Recovering.{image_checks, image_for, image_of}
 use Rattle.recovery.specs.RecoverPromises.{SoundImage, sound-image, image-editions, image-scans}

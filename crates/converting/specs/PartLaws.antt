@@ -21,7 +21,7 @@ use Rattle.model.specs.Log.{View, Item, Scan, damaged, scanned, scan, items_of, 
 use Rattle.model.specs.Conversion.{entries_in, slot_bytes, rewritten}
 use Rattle.laws.specs.Members.{clash}
 use Rattle.laws.specs.Scans.{item_entries, Scans, scan-scans, scans-low, scans-high, scans-more, scans-stop, scans-sound}
-use Rattle.log.specs.Heads.{stays}
+use Rattle.drive_log.specs.Heads.{stays}
 use Rattle.converting.specs.Parts.{entries_of, part_bytes, LogOf}
 
 -- ---- a walk over a segment

@@ -18,7 +18,7 @@ use Rattle.model.specs.Operations.{all_encoded}
 use Rattle.model.specs.Conversion.{slot_bytes, rewritten, slot_too_long}
 use Rattle.laws.specs.Scans.{scans-high, scans-total}
 use Rattle.laws.specs.Stores.{length-segment}
-use Rattle.log.specs.Shape.{Shape, inside}
+use Rattle.drive_log.specs.Shape.{Shape, inside}
 use Rattle.converting.specs.Parts.{entries_of, part_bytes, LogOf}
 use Rattle.converting.specs.PartLaws.{Left, More, Sized, left-start, left-inside, PartOf, part_of, part-rewritten, any-skip, any-turn, any_found, any_none}
 

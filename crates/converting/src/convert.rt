@@ -3,7 +3,7 @@ ghost use Rattle.std.specs.Prelude.{◌*◌, ◌≡◌, length};
 ghost use Rattle.slot_map.specs.Bit.{named};
 ghost use Rattle.model.specs.Log.{views_of, log_of, highest};
 ghost use Rattle.model.specs.Conversion.{ConvertPromise};
-ghost use Rattle.log.specs.Shape.{Shape};
+ghost use Rattle.drive_log.specs.Shape.{Shape};
 ghost use Rattle.converting.specs.Parts.{LogOf};
 ghost use Rattle.converting.specs.Converting.{LogConverted};
 

@@ -6,10 +6,10 @@ ghost use Rattle.slot_map.specs.Bit.{named};
 ghost use Rattle.model.specs.Log.{views_of, scan, is_damaged};
 ghost use Rattle.model.specs.Operations.{all_encoded};
 ghost use Rattle.model.specs.Conversion.{filled_to, slot_too_long, converted_slots};
-ghost use Rattle.log.specs.Shape.{Shape};
+ghost use Rattle.drive_log.specs.Shape.{Shape};
 ghost use Rattle.converting.specs.Parts.{entries_of, part_bytes, LogOf};
 
-use log::slots::is_named;
+use drive_log::slots::is_named;
 use segment::area::cut;
 use segment::entries::next;
 use segment::layout::digest_size;

@@ -6,10 +6,10 @@ ghost use Rattle.segment.specs.Layout.{edition2, digest_size};
 ghost use Rattle.slot_map.specs.Bit.{named};
 ghost use Rattle.model.specs.Log.{views_of, log_of, highest};
 ghost use Rattle.model.specs.Conversion.{next_too_wide, slot_too_wide};
-ghost use Rattle.log.specs.Shape.{Shape};
+ghost use Rattle.drive_log.specs.Shape.{Shape};
 ghost use Rattle.converting.specs.Parts.{LogOf};
 
-use log::slots::is_named;
+use drive_log::slots::is_named;
 use segment::area::cut;
 use segment::layout::version_limit;
 use segment::reader::digest;

@@ -1,4 +1,6 @@
 // The present bytes of the slots at a commit (02, R-5): single numbers change, and nothing is counted anew over the log.
+#![tactic(auto)]
+
 ghost use Rattle.std.specs.Prelude.{◌+◌, ◌*◌, ◌-◌, ◌≤◌, ◌<◌, ◌≡◌, length, get_or};
 ghost use Rattle.segment.specs.Choice.{pick};
 ghost use Rattle.slot_map.specs.Bit.{named};

@@ -1,4 +1,6 @@
 // Reads N (1 byte), S (2 bytes) and an area from standard input, and prints what the area holds (01, "Values to hold it to").
+#![tactic(auto)]
+
 use report::ROOM;
 
 // The longest input that can be right, and a byte more to tell a longer one.

@@ -1,6 +1,8 @@
 // The step for a firmware that keeps its record in place. `step_kept` is the one function that takes a reference to a record,
 // and `step_held` the one that lends a record: the borrow checker covers neither, so each proof is a walk by hand, and all the
 // work is the by-value step's.
+#![tactic(auto)]
+
 ghost use Rattle.model.specs.Promises.{StepPromise};
 ghost use Rattle.stepping.specs.Tested.{StepTested};
 

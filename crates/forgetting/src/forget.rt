@@ -22,7 +22,7 @@ use cleaning::noted::note_victims;
 use cleaning::outside::mark_outside;
 use index::Found;
 use index::search::search;
-use log::slots::is_named;
+use drive_log::slots::is_named;
 use record::{Pending, Record, Refusal, Start, new_edition};
 use segment::area::cut;
 use segment::reader::edition_of;

@@ -1,5 +1,7 @@
 // The start of a delete. Where its tombstone finds no room, the delete is a cleaning of the one slot with the live object (02,
 // R-4).
+#![tactic(auto)]
+
 use segment::{Key, Version};
 
 pub mod copy;
@@ -9,7 +11,7 @@ pub mod start;
 
 // A live object that is to go: the place where it stands, whether a tombstone is needed there, and the tombstone's key and
 // version.
-#[derive(Drop)]
+#[derive(Clone, Copy)]
 pub struct Live {
     pub place: usize,
     pub needed: bool,

@@ -7,7 +7,7 @@ ghost use Rattle.forgetting.specs.Forgot.{dead_bytes, forgot_entry, forgot_slot,
 use crate::Live;
 use cleaning::Split;
 use cleaning::kept::{is_kept, moved_length};
-use log::head::same_edition;
+use drive_log::head::same_edition;
 use segment::area::cut;
 use segment::entries::next;
 use segment::layout::{digest_size, head_size};

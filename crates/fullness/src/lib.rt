@@ -1,4 +1,6 @@
 // How full the slots really are (02, R-5): the slot of the log that has the fewest present bytes.
+#![tactic(auto)]
+
 ghost use Rattle.std.specs.Prelude.{◌≤◌, ◌<◌, ◌≡◌, true, length};
 ghost use Rattle.slot_map.specs.Bit.{named};
 ghost use Rattle.model.specs.Fewest.{has_fewest, lowest_from, FewestPromise};

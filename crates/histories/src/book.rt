@@ -6,13 +6,13 @@ use crate::Letter;
 use segment::Key;
 
 // What a key has: its version, 0 where it is absent, and the byte that its value has eight times.
-#[derive(Drop)]
+#[derive(Clone, Copy)]
 pub struct Held {
     pub version: u64,
     pub byte: u8,
 }
 
-#[derive(Drop)]
+#[derive(Clone, Copy)]
 pub struct Book {
     pub next: u64,
     pub first: Held,

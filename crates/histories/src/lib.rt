@@ -1,6 +1,8 @@
 // The short histories of the rig (02, R-14): which words of letters are legal, and the lines that list them. A word is given by
 // its length and its number among the words of that length in the order of the letters: the digits of the number to base 5
 // are the letters' numbers, the first letter's the highest.
+#![tactic(auto)]
+
 ghost use Rattle.std.specs.Prelude.{◌+◌, ◌*◌, ◌^◌, ◌≤◌, ◌≡◌, [], ◌∷◌, length};
 ghost use Rattle.text.specs.Put.{Put};
 ghost use Rattle.histories.specs.Letters.{letter_of, code_of, allowed, after, legal};
@@ -13,7 +15,7 @@ pub mod book;
 pub const LONGEST: u32 = 6;
 
 // A and B write the first and the second key, a and b delete them, C cleans all slots of the log.
-#[derive(Drop)]
+#[derive(Clone, Copy)]
 pub enum Letter {
     WriteA,
     WriteB,
@@ -23,7 +25,7 @@ pub enum Letter {
 }
 
 // Which of the two keys are present.
-#[derive(Drop)]
+#[derive(Clone, Copy)]
 pub struct Presence {
     pub first: bool,
     pub second: bool,

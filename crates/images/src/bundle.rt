@@ -13,7 +13,7 @@ pub const HEADER: usize = 16;
 // The bytes of a key.
 pub const KEY: usize = 6;
 
-#[derive(Drop)]
+#[derive(Clone, Copy)]
 pub struct Header {
     pub slots: u8,
     pub size: u16,

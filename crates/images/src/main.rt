@@ -1,5 +1,7 @@
 // Recovers each image of a bundle and writes what came of it: the refusal and what it left of the index, or the record and
 // what the reads of some keys answer. The Rust reference wrote the bundle and what is expected.
+#![tactic(auto)]
+
 use bundle::item_end;
 
 mod bundle;

@@ -1,10 +1,12 @@
 // The index over the caller's cells: search, put and rebuild.
+#![tactic(auto)]
+
 pub mod build;
 pub mod put;
 pub mod search;
 
 // What a search for a key meets: the cell that holds it, a free cell, or neither in any cell.
-#[derive(Drop)]
+#[derive(Clone, Copy)]
 pub enum Found {
     At(usize),
     Free(usize),
@@ -14,7 +16,7 @@ pub enum Found {
 // What became of an entry: a new key's cell is filled, a newer entry replaces an older one, whose place is told, an older one changes
 // nothing,
 // or every cell is taken by other keys.
-#[derive(Drop)]
+#[derive(Clone, Copy)]
 pub enum Inserted {
     New,
     Newer(u32),
@@ -23,7 +25,7 @@ pub enum Inserted {
 }
 
 // The number of keys in a rebuilt index, or more of them than it may hold.
-#[derive(Drop)]
+#[derive(Clone, Copy)]
 pub enum Built {
     Keys(usize),
     TooMany,

@@ -5,6 +5,8 @@
 // other objects of the key stand. A second one adds what each slot keeps of its tombstones, and tells for each other slot how much
 // of it goes where that one is a victim too. A slot is read in its own edition, and bytes are counted as they are rewritten in that
 // of the new head (02, R-13).
+#![tactic(auto)]
+
 
 pub mod join;
 pub mod notes;
@@ -12,14 +14,14 @@ pub mod pairs;
 pub mod weights;
 
 // Bytes of a slot as rewritten: of the objects that are kept, and of all tombstones.
-#[derive(Drop)]
+#[derive(Clone, Copy)]
 pub struct Sums {
     pub objects: usize,
     pub tombstones: usize,
 }
 
 // What a cleaning keeps of a tombstone, by the other victim: nothing, all of it, or all unless the other one is that slot.
-#[derive(Drop)]
+#[derive(Clone, Copy)]
 pub enum Share {
     Nothing,
     Whole,
@@ -27,14 +29,14 @@ pub enum Share {
 }
 
 // The slot to join with another, if there is one.
-#[derive(Drop)]
+#[derive(Clone, Copy)]
 pub enum Partner {
     Slot(usize),
     Nobody,
 }
 
 // The lowest pair, if there is one.
-#[derive(Drop)]
+#[derive(Clone, Copy)]
 pub enum Chosen {
     Pair(usize, usize),
     Nothing,

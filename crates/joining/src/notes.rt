@@ -9,7 +9,7 @@ use crate::Sums;
 use cleaning::Split;
 use index::Found;
 use index::search::search;
-use log::slots::is_named;
+use drive_log::slots::is_named;
 use segment::area::cut;
 use segment::entries::next;
 use segment::layout::{digest_size, head_size};

@@ -8,7 +8,7 @@ ghost use Rattle.joining.specs.PairLaws.{PairsFit, partner_is, chosen_is};
 
 use crate::{Chosen, Partner};
 use cleaning::Split;
-use log::slots::is_named;
+use drive_log::slots::is_named;
 use segment::Edition;
 use segment::layout::digest_size;
 

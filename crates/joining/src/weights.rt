@@ -9,7 +9,7 @@ ghost use Rattle.joining.specs.Weights.{note_share, Low, shares_with, share_leng
 use crate::Share;
 use crate::notes::SHORTEST;
 use cleaning::Split;
-use log::slots::is_named;
+use drive_log::slots::is_named;
 use segment::area::cut;
 use segment::entries::next;
 use segment::layout::{digest_size, head_size};

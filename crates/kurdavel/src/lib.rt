@@ -2,6 +2,8 @@
 // The reads, the start of a write, the step, the next store told, the switch and the question for the emptiest slot go by the record's
 // words as they are; the others decode the record from them, make the call, and encode what it hands back. Nothing is required of the
 // caller's values: words that are no record are refused with 4. The answer is 0 or the refusal's number.
+#![tactic(auto)]
+
 ghost use Rattle.std.specs.Prelude.{◌≤◌, ◌≡◌, true, length};
 ghost use Rattle.model.specs.Operations.{write, delete, clean};
 ghost use Rattle.model.specs.Refused.{freely, reaching};

@@ -9,7 +9,7 @@ use segment::{Edition, Key, Version};
 pub const KEYS: usize = 4;
 
 // A value as a history writes it: so many bytes, the first one, and what each adds to the one before it.
-#[derive(Drop)]
+#[derive(Clone, Copy)]
 pub struct Value {
     pub length: usize,
     pub first: u8,
@@ -17,13 +17,13 @@ pub struct Value {
 }
 
 // What a key has. Version 0 stands for a key that is not present.
-#[derive(Drop)]
+#[derive(Clone, Copy)]
 pub struct Held {
     pub version: Version,
     pub value: Value,
 }
 
-#[derive(Drop)]
+#[derive(Clone, Copy)]
 pub struct Book {
     pub next: Version,
     pub held: [Held; 4],

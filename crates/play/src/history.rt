@@ -5,7 +5,7 @@ use crate::book::Value;
 use crate::operations::Played;
 use crate::{lines, memory, operations};
 
-#[derive(Drop)]
+#[derive(Clone, Copy)]
 pub enum Event {
     // A heading with the number of a case.
     Case(u32),

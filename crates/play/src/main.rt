@@ -1,5 +1,7 @@
 // Makes the calls of a written history on an area and writes a line for each operation. After every store the area is handed to
 // recovery as a cut would leave it, and what it gives is compared with the book of the history.
+#![tactic(auto)]
+
 mod book;
 mod history;
 mod lines;

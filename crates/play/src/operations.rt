@@ -14,7 +14,7 @@ use slot_map::with_slot;
 use store::{clean, delete, join, step, write};
 
 // The record, the book, and after how many stores of the next operation the supply fails, 0 where it does not.
-#[derive(Drop)]
+#[derive(Clone, Copy)]
 pub struct Played {
     pub rec: Record,
     pub book: Book,
@@ -22,7 +22,7 @@ pub struct Played {
 }
 
 // What an operation is to do: its version, the book before it and after it, and how many of its stores the supply allows.
-#[derive(Drop)]
+#[derive(Clone, Copy)]
 struct Due {
     version: Version,
     before: Book,

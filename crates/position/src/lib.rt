@@ -1,6 +1,8 @@
 // Head positions as 32-bit floats and as whole counts (02, R-10): a value of eight bytes is converted from one to the other,
 // its last four bytes kept. No cast here can round: the language defines a cast to or from a float only where it loses
 // nothing, and what it leaves undefined is tested away on the bits before.
+#![tactic(auto)]
+
 ghost use Rattle.std.specs.Prelude.{◌≡◌, true, [], ◌≤◌, ◌%◌, eqb, length};
 ghost use Rattle.std.proofs.Math.Option.{none, some};
 ghost use Rattle.position.specs.Float.{units_of, units_of_one, is_count, count_in, is_held, float_of};
@@ -19,14 +21,14 @@ const LOWEST_IS_ONE: u32 = 150;
 
 const HIGHEST_IS_ONE: u32 = 127;
 
-#[derive(Drop)]
+#[derive(Clone, Copy)]
 pub enum Answer {
     Converted,
     Refused(Refusal),
 }
 
 // The answer, and the eight bytes: all 0 where it is a refusal.
-#[derive(Drop)]
+#[derive(Clone, Copy)]
 pub struct Conversion {
     pub answer: Answer,
     pub value: [u8; 8],

@@ -1,4 +1,6 @@
 // The store record, the pending operation, the refusals and the answers of the calls.
+#![tactic(auto)]
+
 ghost use Rattle.std.specs.Prelude.{◌≡◌};
 ghost use Rattle.record.specs.Answers.{blank, stores_left, with_pending};
 ghost use Rattle.record.specs.Committed.{committed};
@@ -12,7 +14,7 @@ pub mod reach;
 
 // What an operation still has to do. The bytes themselves stand in the work buffer; `length` is how many of them are the
 // operation's, and `left` how many stores are left.
-#[derive(Drop)]
+#[derive(Clone, Copy)]
 pub enum Pending {
     Idle,
     // A write or delete whose entry goes to the end of the head.
@@ -46,7 +48,7 @@ pub enum Pending {
 // switched to the second edition (R-13), what the head's digest says with the end of its entries, the next version, how many keys the
 // log has entries of, and the pending operation; and for each slot the bytes of its present objects (R-5). A value of it is named
 // `rec`, since `record` is a word of the proofs' language.
-#[derive(Drop)]
+#[derive(Clone, Copy)]
 pub struct Record {
     pub slots: u32,
     pub size: u32,
@@ -64,7 +66,7 @@ pub struct Record {
 }
 
 // What the last store of an operation makes of the head and the counters.
-#[derive(Drop)]
+#[derive(Clone, Copy)]
 pub struct Commit {
     pub edition: Edition,
     pub head: u32,
@@ -75,7 +77,7 @@ pub struct Commit {
 }
 
 // The causes of 01's table "Refused calls", in the order of their numbers, and those that 02 adds to it.
-#[derive(Drop)]
+#[derive(Clone, Copy)]
 pub enum Refusal {
     Geometry,
     Cells,
@@ -111,131 +113,131 @@ pub enum Refusal {
 
 // The tables that a caller may reach (02, R-2), from the first to the last, both included; none where the first is above the
 // last.
-#[derive(Drop)]
+#[derive(Clone, Copy)]
 pub struct Tables {
     pub first: u16,
     pub last: u16,
 }
 
 // What a write expects of its key (02, R-1): nothing, or the version that the key has, 0 where it is absent.
-#[derive(Drop)]
+#[derive(Clone, Copy)]
 pub enum Expected {
     Any,
     Only(Version),
 }
 
-#[derive(Drop)]
+#[derive(Clone, Copy)]
 pub enum FormatAnswer {
     Formatted,
     Refused(Refusal),
 }
 
-#[derive(Drop)]
+#[derive(Clone, Copy)]
 pub enum RecoverAnswer {
     Recovered,
     Refused(Refusal),
 }
 
 // Where recovery is refused, `rec` is the blank record.
-#[derive(Drop)]
+#[derive(Clone, Copy)]
 pub struct Recovery {
     pub answer: RecoverAnswer,
     pub rec: Record,
 }
 
-#[derive(Drop)]
+#[derive(Clone, Copy)]
 pub enum ReadAnswer {
     Present { version: Version, kind: u8 },
     Refused(Refusal),
 }
 
-#[derive(Drop)]
+#[derive(Clone, Copy)]
 pub struct Reading {
     pub answer: ReadAnswer,
     pub rec: Record,
 }
 
 // A start answers the number of stores to come.
-#[derive(Drop)]
+#[derive(Clone, Copy)]
 pub enum StartAnswer {
     Started(u32),
     Refused(Refusal),
 }
 
-#[derive(Drop)]
+#[derive(Clone, Copy)]
 pub struct Start {
     pub answer: StartAnswer,
     pub rec: Record,
 }
 
 // A step answers the number of stores left; the last one the version, 0 for a cleaning.
-#[derive(Drop)]
+#[derive(Clone, Copy)]
 pub enum StepAnswer {
     Left(u32),
     Done(Version),
     Refused(Refusal),
 }
 
-#[derive(Drop)]
+#[derive(Clone, Copy)]
 pub struct Stepped {
     pub answer: StepAnswer,
     pub rec: Record,
 }
 
 // The slot of the log that has the fewest present bytes (02, R-5).
-#[derive(Drop)]
+#[derive(Clone, Copy)]
 pub enum FewestAnswer {
     Slot(u32),
     Refused(Refusal),
 }
 
-#[derive(Drop)]
+#[derive(Clone, Copy)]
 pub struct Fewest {
     pub answer: FewestAnswer,
     pub rec: Record,
 }
 
 // The store that the next step will make, told before it: its place in the area, and its byte.
-#[derive(Drop)]
+#[derive(Clone, Copy)]
 pub enum TellAnswer {
     At { place: u32, byte: u8 },
     Refused(Refusal),
 }
 
-#[derive(Drop)]
+#[derive(Clone, Copy)]
 pub struct Foretold {
     pub answer: TellAnswer,
     pub rec: Record,
 }
 
 // Two log slots that one new head can take over (02, R-7), the lower one first.
-#[derive(Drop)]
+#[derive(Clone, Copy)]
 pub enum JoinAnswer {
     Pair { first: u32, second: u32 },
     Refused(Refusal),
 }
 
-#[derive(Drop)]
+#[derive(Clone, Copy)]
 pub struct Joined {
     pub answer: JoinAnswer,
     pub rec: Record,
 }
 
 // The switch to the second edition (02, R-13).
-#[derive(Drop)]
+#[derive(Clone, Copy)]
 pub enum SwitchAnswer {
     Switched,
     Refused(Refusal),
 }
 
-#[derive(Drop)]
+#[derive(Clone, Copy)]
 pub struct Switching {
     pub answer: SwitchAnswer,
     pub rec: Record,
 }
 
 // An image in the other edition (02, R-12).
-#[derive(Drop)]
+#[derive(Clone, Copy)]
 pub enum ConvertAnswer {
     Converted,
     Refused(Refusal),

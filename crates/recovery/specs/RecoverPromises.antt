@@ -35,7 +35,7 @@ use Rattle.laws.specs.Passed.{LentPassed, lent-passed, ImagePassed, image-passed
 use Rattle.laws.specs.SaidLaws.{recover-says}
 use Rattle.laws.specs.Versions.{highest-below}
 use Rattle.laws.specs.LogLaws.{AllOf, AllScanned, editions-one, undamaged-scans, log-in}
-use Rattle.log.specs.Shape.{Shape}
+use Rattle.drive_log.specs.Shape.{Shape}
 use Rattle.index.specs.Build.{Rebuilt, built}
 use Rattle.index.specs.BuildLaws.{Holds, built-rule, built-over, log-reads}
 use Rattle.index.specs.declared.Built.{Built}

@@ -1,4 +1,6 @@
 // The calls that look at a store: format, recovery, and reads.
+#![tactic(auto)]
+
 use record::Refusal;
 use segment::{Digest, Edition, Version};
 
@@ -10,7 +12,7 @@ pub mod recover;
 // What the index says of a key: its object at a place of the area, with the length of the whole entry; that no object is
 // its latest entry; that its table is out of the caller's reach; or that the record, the index or the log is not one that a call
 // may go by.
-#[derive(Drop)]
+#[derive(Clone, Copy)]
 pub enum Lookup {
     Object {
         place: usize,
@@ -24,14 +26,14 @@ pub enum Lookup {
 }
 
 // Whether recovery may go on, or the cause that refuses it.
-#[derive(Drop)]
+#[derive(Clone, Copy)]
 pub enum Checked {
     Passed,
     Refused(Refusal),
 }
 
 // What recovery found in an area: the cause that refuses it, or the head with its edition and the highest version in its log.
-#[derive(Drop)]
+#[derive(Clone, Copy)]
 pub enum Image {
     Refused(Refusal),
     Sound {

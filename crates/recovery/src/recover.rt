@@ -7,7 +7,7 @@ ghost use Rattle.model.specs.Log.{views_of};
 ghost use Rattle.model.specs.Causes.{first_cause};
 ghost use Rattle.model.specs.Recovery.{image_layout, order_bad, sharing, digest_bad, digest_causes};
 ghost use Rattle.model.specs.Promises.{RecoverPromise};
-ghost use Rattle.log.specs.Shape.{Shape};
+ghost use Rattle.drive_log.specs.Shape.{Shape};
 ghost use Rattle.recovery.specs.Order.{see_slot, seen_from};
 ghost use Rattle.recovery.specs.Recovering.{lent_first, checked_as, editions_bad, image_of, image_under, record_with, refused_with};
 
@@ -16,13 +16,13 @@ use crate::format::geometry_bad;
 use crate::{Checked, Image};
 use index::Built;
 use index::build::build;
-use log::HeadFound;
-use log::head::{
+use drive_log::HeadFound;
+use drive_log::head::{
     find_head, names_later_edition, names_no_digest, names_other_edition, shared_number,
 };
-use log::scan::end_of;
-use log::survey::survey;
-use log::versions::version_shared;
+use drive_log::scan::end_of;
+use drive_log::survey::survey;
+use drive_log::versions::version_shared;
 use record::range::{cells_good, map_good};
 use record::{Pending, Record, RecoverAnswer, Recovery, Refusal, blank};
 use segment::area::cut;

@@ -1,4 +1,6 @@
 // What the program `dump` prints (01, "Values to hold it to"), as a text in a caller's buffer.
+#![tactic(auto)]
+
 ghost use Rattle.std.specs.Prelude.{◌≤◌, length};
 ghost use Rattle.report.specs.Report.{area_text, dump_text, text_room, text_within};
 ghost use Rattle.report.specs.PutLaws.{PutWithin};

@@ -1,4 +1,6 @@
 // Reads one digit, 0 to 6, and prints all legal histories up to that length, and the first that recovers wrongly or `none` (02, R-14).
+#![tactic(auto)]
+
 use rigging::ROOM;
 
 fn main() {

@@ -1,5 +1,7 @@
 // Reads one digit, 0 to 6, and prints all legal histories up to that length, and the first that recovers wrongly or `none` (02, R-14), for a copy whose
 // recovery takes the next version from log entries alone.
+#![tactic(auto)]
+
 use rigging::ROOM;
 
 fn main() {

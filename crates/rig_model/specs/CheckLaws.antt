@@ -33,8 +33,8 @@ use Rattle.std.specs.Borrow.{Bor}
 use Rattle.laws.specs.LogLaws.{AllScanned, scans-undamaged}
 use Rattle.laws.specs.OperationsKept.{edition-laws}
 use Rattle.laws.specs.RecoverLaws.{order-free, own-recovered, recovery-recovered, recovered-case}
-use Rattle.log.specs.Shape.{Shape}
-use Rattle.log.specs.Surveys.{Surveyed}
+use Rattle.drive_log.specs.Shape.{Shape}
+use Rattle.drive_log.specs.Surveys.{Surveyed}
 use Rattle.report.specs.Gather.{RecoveredArea}
 use Rattle.report.specs.Listing.{present_keys}
 use Rattle.histories.specs.Book.{first_key, second_key, count_of}

@@ -10,7 +10,7 @@ ghost use Rattle.rig_model.specs.RunLaws.{Ready};
 
 use histories::book;
 use histories::book::{Book, Held};
-use log::survey::survey;
+use drive_log::survey::survey;
 use record::{ReadAnswer, Record, RecoverAnswer, Tables};
 use report::gather::gather;
 use segment::Key;

@@ -1,5 +1,7 @@
 // The rig (02, R-14): all legal histories up to a length, each run on the store with a cut before its first store and after every
 // one, and the first that recovers wrongly. N is 4, S 256, M 16.
+#![tactic(auto)]
+
 ghost use Rattle.std.specs.Prelude.{◌+◌, ◌≤◌, ◌≡◌, length};
 ghost use Rattle.segment.specs.Choice.{both};
 ghost use Rattle.text.specs.Put.{Put};
@@ -20,7 +22,7 @@ mod run;
 pub const ROOM: usize = 137000;
 
 // Which history recovers wrongly, by its length and its number among the words of that length.
-#[derive(Drop)]
+#[derive(Clone, Copy)]
 pub enum Verdict {
     Wrong(u32, u32),
     Nothing,

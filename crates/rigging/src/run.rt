@@ -16,7 +16,7 @@ use segment::Key;
 use store::{clean, delete, format, recover, step, write};
 
 // The record after a letter, the book, and whether a cut on the way recovered wrongly.
-#[derive(Drop)]
+#[derive(Clone, Copy)]
 struct Played {
     rec: Record,
     book: Book,

@@ -24,9 +24,9 @@ use Rattle.model.specs.Log.{View, Item, Placed, segment_of, views_of, Scan, dama
 use Rattle.laws.specs.Members.{clash, In, first}
 use Rattle.laws.specs.LogLaws.{placed_at, placed-append}
 use Rattle.laws.specs.Scans.{item_at}
-use Rattle.log.specs.Shape.{own-layout, own-scan}
-use Rattle.log.specs.Extents.{Meets, rest_of, rest-whole, rest-entry, rest_end, rest-damage, log-skip, log-take}
-use Rattle.log.specs.Surveys.{after, after_none, after_first}
+use Rattle.drive_log.specs.Shape.{own-layout, own-scan}
+use Rattle.drive_log.specs.Extents.{Meets, rest_of, rest-whole, rest-entry, rest_end, rest-damage, log-skip, log-take}
+use Rattle.drive_log.specs.Surveys.{after, after_none, after_first}
 use Rattle.scanning.specs.Seeing.{seen_with, seen_next, seeing, seen_in, seen_of}
 use Rattle.scanning.specs.declared.Seen.{Seen}
 

@@ -34,7 +34,7 @@ use Rattle.laws.specs.Members.{clash, In}
 use Rattle.laws.specs.Latest.{latest-some}
 use Rattle.laws.specs.Forgotten.{present-live}
 use Rattle.laws.specs.LogLaws.{AllScanned, undamaged-scans, log-in}
-use Rattle.log.specs.Shape.{Shape}
+use Rattle.drive_log.specs.Shape.{Shape}
 use Rattle.index.specs.BuildLaws.{log-reads}
 use Rattle.recovery.specs.FormatLaws.{geometry-fits}
 use Rattle.recovery.specs.LookupLaws.{stands_at, placed-layout, ObjectInside}

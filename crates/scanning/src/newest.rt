@@ -4,14 +4,14 @@ ghost use Rattle.std.proofs.Math.Option.{none};
 ghost use Rattle.slot_map.specs.Bit.{named};
 ghost use Rattle.model.specs.Log.{views_of, items_of, is_damaged, placed_in, log_of, same_keys};
 ghost use Rattle.laws.specs.LogLaws.{AllScanned};
-ghost use Rattle.log.specs.Shape.{Shape};
-ghost use Rattle.log.specs.Extents.{rest_of};
+ghost use Rattle.drive_log.specs.Shape.{Shape};
+ghost use Rattle.drive_log.specs.Extents.{rest_of};
 ghost use Rattle.scanning.specs.Seeing.{seen_with, seen_in, seen_of};
 ghost use Rattle.scanning.specs.SeeingLaws.{Skipped};
 
 use crate::Seen;
-use log::lengths::size_after;
-use log::slots::is_named;
+use drive_log::lengths::size_after;
+use drive_log::slots::is_named;
 use segment::area::cut;
 use segment::entries::next;
 use segment::layout::digest_size;

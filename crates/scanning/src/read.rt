@@ -6,7 +6,7 @@ ghost use Rattle.model.specs.Log.{views_of, log_of};
 ghost use Rattle.model.specs.Recovery.{image_layout};
 ghost use Rattle.model.specs.Scanned.{ScanPromise, ScanReference};
 ghost use Rattle.laws.specs.LogLaws.{AllScanned};
-ghost use Rattle.log.specs.Shape.{Shape};
+ghost use Rattle.drive_log.specs.Shape.{Shape};
 ghost use Rattle.scanning.specs.Seeking.{sought_read, sought_in, sought};
 
 use crate::Sought;

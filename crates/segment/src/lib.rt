@@ -1,4 +1,6 @@
 // The bytes of one segment: its counters, the entry reader, the digest, and what is written.
+#![tactic(auto)]
+
 pub mod area;
 pub mod entries;
 pub mod layout;
@@ -7,29 +9,29 @@ pub mod rewrite;
 pub mod writer;
 
 // A version of an object or tombstone. Versions and digest numbers are counted apart (01, "Bytes of a segment").
-#[derive(Drop)]
+#[derive(Clone, Copy)]
 pub struct Version(pub u64);
 
 // The number of a digest.
-#[derive(Drop)]
+#[derive(Clone, Copy)]
 pub struct DigestNumber(pub u32);
 
 // The editions of the format (02, R-11). What each fixes is a table of `layout`.
-#[derive(Drop)]
+#[derive(Clone, Copy)]
 pub enum Edition {
     First,
     Second,
 }
 
 // A key is table and key together (01, "The log and its map").
-#[derive(Drop)]
+#[derive(Clone, Copy)]
 pub struct Key {
     pub table: u16,
     pub key: u32,
 }
 
 // What stands at an offset of a segment. `length` is the whole entry's.
-#[derive(Drop)]
+#[derive(Clone, Copy)]
 pub enum Read {
     Object {
         key: Key,
@@ -47,7 +49,7 @@ pub enum Read {
 }
 
 // What an entry has before its value, an object or a tombstone.
-#[derive(Drop)]
+#[derive(Clone, Copy)]
 pub struct Header {
     pub key: Key,
     pub version: Version,
@@ -56,7 +58,7 @@ pub struct Header {
 }
 
 // What a walk over a segment meets.
-#[derive(Drop)]
+#[derive(Clone, Copy)]
 pub enum Next {
     Entry(Header),
     End,
@@ -64,7 +66,7 @@ pub enum Next {
 }
 
 // The fields of a digest.
-#[derive(Drop)]
+#[derive(Clone, Copy)]
 pub struct Digest {
     pub number: DigestNumber,
     pub map: u32,

@@ -1,5 +1,7 @@
 // Slot maps: a word with one bit for each slot, the lowest for slot 0. The definitions say a bit by division and remainder,
 // and the code goes by shifts and masks.
+#![tactic(auto)]
+
 ghost use Rattle.std.specs.Prelude.{◌≡◌, ◌^◌, ◌≤◌, ◌<◌, ltb};
 ghost use Rattle.slot_map.specs.Bit.{named, with_bit, less, within};
 ghost use Rattle.slot_map.specs.Count.{free, all_slots};

@@ -1,4 +1,6 @@
 // The step: one store of the pending operation, and at the last one the record and the index brought up to date.
+#![tactic(auto)]
+
 ghost use Rattle.model.specs.Promises.{StepPromise};
 ghost use Rattle.stepping.specs.Tested.{StepTested};
 

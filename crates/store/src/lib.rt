@@ -1,5 +1,7 @@
 // The store: its calls, and the value of a read. This is what a user looks at; the promise of each call is its contract,
 // a relation of the crate model that holds for every input.
+#![tactic(auto)]
+
 
 // Makes an area of N slots of S bytes a fresh store of edition 1 or 2. Outside the promise about cuts. Refused with 1, it changes
 // nothing.

@@ -1,4 +1,6 @@
 // The switch of a live store to the second edition (02, R-13): from then on every new head is of that edition.
+#![tactic(auto)]
+
 ghost use Rattle.model.specs.Switching.{SwitchPromise};
 
 use record::range::in_range;

@@ -1,4 +1,6 @@
 // Text in a caller's buffer: words and decimal numbers, each put at a place and answering the place behind it.
+#![tactic(auto)]
+
 ghost use Rattle.std.specs.Prelude.{◌+◌, ◌≤◌, length};
 ghost use Rattle.text.specs.Digits.{digits};
 ghost use Rattle.text.specs.Put.{Put};
@@ -7,7 +9,7 @@ ghost use Rattle.text.specs.Spelled.{Spelled};
 use segment::writer::copy_into;
 
 // The digits of a number stand in `bytes` from `from` on.
-#[derive(Drop)]
+#[derive(Clone, Copy)]
 struct Spelling {
     bytes: [u8; 20],
     from: usize,

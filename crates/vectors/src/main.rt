@@ -1,4 +1,6 @@
 // Runs the leaf crates over published and worked values, and writes a line for each.
+#![tactic(auto)]
+
 mod hashes;
 mod readers;
 

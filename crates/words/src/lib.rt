@@ -1,4 +1,6 @@
 // The store record as words: what crosses to a firmware, which lends the words and keeps them from call to call.
+#![tactic(auto)]
+
 ghost use Rattle.std.specs.Prelude.{◌+◌, ◌*◌, ◌≤◌, ◌≡◌, true, [], ◌∷◌, length};
 ghost use Rattle.std.proofs.lemmas.List.Edits.{sets};
 ghost use Rattle.segment.specs.Choice.{both};
@@ -34,7 +36,7 @@ pub const LEFT: usize = 16;
 pub const COUNTS: usize = 17;
 
 // Whether words are a record, and the record; the blank one where they are not.
-#[derive(Drop)]
+#[derive(Clone, Copy)]
 pub struct Decoded {
     pub ok: bool,
     pub rec: Record,

@@ -1,4 +1,6 @@
 // The start of a write, and what that of a delete shares with it: what they check, and how an entry is laid out in the work buffer.
+#![tactic(auto)]
+
 use record::Pending;
 use segment::Version;
 
@@ -10,7 +12,7 @@ pub mod start;
 
 // What the index says of a key: its latest entry is an object of that version or a tombstone, it has none, or a byte was met that the rules of
 // the log forbid.
-#[derive(Drop)]
+#[derive(Clone, Copy)]
 pub enum Presence {
     Object(Version),
     Tombstone,
@@ -19,7 +21,7 @@ pub enum Presence {
 }
 
 // What a start lays down besides the bytes in the work buffer: the pending operation and the number of its stores.
-#[derive(Drop)]
+#[derive(Clone, Copy)]
 pub struct Laying {
     pub pending: Pending,
     pub left: u32,

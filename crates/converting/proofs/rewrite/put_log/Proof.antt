@@ -7,7 +7,7 @@ use Rattle.model.specs.Log.{views_of}
 use Rattle.slot_map.specs.Bit.{named}
 use lib.ListN.{length}
 use Rattle.segment.specs.Copied.{copied-long}
-use Rattle.log.specs.Shape.{inside, digest-inside}
+use Rattle.drive_log.specs.Shape.{inside, digest-inside}
 use Rattle.converting.specs.PartLaws.{PartOf, part_of}
 use Rattle.converting.specs.SizeLaws.{part-fits}
 use Rattle.converting.specs.RewriteLaws.{Filling, fill_start, fill-skip, fill-take, fill_end}

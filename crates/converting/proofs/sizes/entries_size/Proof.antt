@@ -7,7 +7,7 @@ use lib.ListN.{length}
 use borrow.Author.Rules.{rules}
 use Rattle.segment.specs.LayoutLaws.{width-high}
 use Rattle.segment.specs.Kinds.{kind_size}
-use Rattle.log.specs.Lengths.{no-size-of-end}
+use Rattle.drive_log.specs.Lengths.{no-size-of-end}
 use Rattle.converting.specs.PartLaws.{Sized, left-sized, left-unsized, left-past}
 use Rattle.converting.specs.SizeLaws.{Counting, count-start, count-sized, count-end, count_small}
 use Rattle.converting.proofs.sizes.entries_size.Statement.{statement}

@@ -8,7 +8,7 @@ use borrow.Author.Tests.{not-true, not-false}
 use Rattle.model.specs.Log.{views_of}
 use Rattle.slot_map.specs.Bit.{named}
 use Rattle.model.specs.Conversion.{slot_too_long}
-use Rattle.log.specs.Shape.{inside, part-short}
+use Rattle.drive_log.specs.Shape.{inside, part-short}
 use Rattle.converting.specs.PartLaws.{PartOf, part_of}
 use Rattle.converting.specs.SizeLaws.{none-long, long-none, long-skip, long-turn, long-found}
 use Rattle.converting.proofs.sizes.too_long.Statement.{statement}

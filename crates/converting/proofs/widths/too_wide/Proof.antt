@@ -9,7 +9,7 @@ use Rattle.segment.specs.Layout.{version_limit}
 use Rattle.model.specs.Log.{views_of, log_of, highest}
 use Rattle.slot_map.specs.Bit.{named}
 use Rattle.model.specs.Conversion.{slot_too_wide}
-use Rattle.log.specs.Shape.{inside, digest-inside}
+use Rattle.drive_log.specs.Shape.{inside, digest-inside}
 use Rattle.converting.specs.PartLaws.{PartOf, part_of}
 use Rattle.converting.specs.WidthLaws.{wide-highest, wide-none, wide-skip, wide-turn, wide-found}
 use Rattle.converting.proofs.widths.too_wide.Statement.{statement}

@@ -7,7 +7,7 @@ use Rattle.recovery.specs.CheckLaws.{head-none, head-some}
 use borrow.Author.Rules.{rules}
 use Rattle.recovery.proofs.recover.look_at.Statement.{statement}
 use Rattle.recovery.proofs.recover.look_at.Tie as tie
-use Rattle.log.specs.Heads.{told-nothing, told_at}
+use Rattle.drive_log.specs.Heads.{told-nothing, told_at}
 
 found : (c : tie.After-slot)
     → let a = c.before.before.before.before.args in

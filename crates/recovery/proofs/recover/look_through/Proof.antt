@@ -2,7 +2,7 @@
 use mathlib.Core.Path.{◌≡◌, sym, ◌∙◌, ap}
 use Rattle.segment.specs.Digest.{layout_in}
 use Rattle.model.specs.Log.{segment_of, views_of}
-use Rattle.log.specs.Shape.{inside}
+use Rattle.drive_log.specs.Shape.{inside}
 use Rattle.recovery.specs.CheckLaws.{head-below, head-mixed, head-damaged, head-shared, head-sound}
 use borrow.Author.Rules.{rules}
 use borrow.Author.Tests.{not-true, not-false}

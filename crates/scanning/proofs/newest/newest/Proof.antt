@@ -5,7 +5,7 @@ use native.Mathlib.Omega.{arith}
 use borrow.Author.Tests.{not-true, not-false}
 use Rattle.slot_map.specs.Bit.{named}
 use Rattle.model.specs.Log.{views_of}
-use Rattle.log.specs.Shape.{inside}
+use Rattle.drive_log.specs.Shape.{inside}
 use Rattle.scanning.specs.SeeingLaws.{seen_below, walk_none, walk-skip, walk-take}
 use Rattle.scanning.proofs.newest.newest.Statement.{statement}
 use Rattle.scanning.proofs.newest.newest.Tie as tie

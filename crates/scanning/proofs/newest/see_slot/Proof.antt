@@ -8,8 +8,8 @@ use lib.ListN.{length}
 use Rattle.segment.specs.Entries.{next-end, next-damage}
 use Rattle.model.specs.Log.{is_damaged}
 use Rattle.laws.specs.Stores.{length-segment}
-use Rattle.log.specs.Shape.{own-scan}
-use Rattle.log.specs.Extents.{Meets, meets, rest_of}
+use Rattle.drive_log.specs.Shape.{own-scan}
+use Rattle.drive_log.specs.Extents.{Meets, meets, rest_of}
 use Rattle.scanning.specs.Seeing.{seen_next}
 use Rattle.scanning.specs.SeeingLaws.{Seeing, see-start, see-turn, see-end, own-seen, seen_read, sound-start, sound-on, no-damage}
 use Rattle.scanning.proofs.newest.see_slot.Statement.{statement}

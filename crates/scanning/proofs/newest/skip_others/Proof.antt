@@ -5,8 +5,8 @@ use native.Mathlib.Omega.{arith}
 use borrow.Author.Rules.{rules}
 use lib.ListN.{length}
 use Rattle.segment.specs.Kinds.{kind_size}
-use Rattle.log.specs.Extents.{Meets}
-use Rattle.log.specs.Lengths.{no-size-of-end}
+use Rattle.drive_log.specs.Extents.{Meets}
+use Rattle.drive_log.specs.Lengths.{no-size-of-end}
 use Rattle.scanning.specs.SeeingLaws.{Skipped, skip-none, skip-turn, kind_meets}
 use Rattle.scanning.proofs.newest.skip_others.Statement.{statement}
 use Rattle.scanning.proofs.newest.skip_others.Tie as tie

@@ -1,0 +1,55 @@
+-- `drive_log::head::later` meets its contract: a law for each return.
+use borrow.Author.Rules.{rules}
+use mathlib.Core.Path.{refl, ◌∙◌, ap}
+use native.Mathlib.Omega.{arith}
+use borrow.Author.Tests.{not-true, not-false}
+use Rattle.segment.specs.Digest.{digest_of}
+use Rattle.segment.specs.Layout.{Layout, edition2}
+use Rattle.segment.specs.LayoutLaws.{width-high, second-width}
+use Rattle.drive_log.specs.Heads.{later-none, later_first, later-higher, later-lower}
+use Rattle.drive_log.proofs.head.later.Statement.{statement}
+use Rattle.drive_log.proofs.head.later.Tie as tie
+
+is-digest-requires : tie.Need-is-digest-requires
+is-digest-requires c κs = search rules
+
+returns : tie.Need-returns
+returns c = later-none _ _ c.before.is-digest.ensures _ _ (not-true _ c.if1.true)
+
+edition-of-requires : tie.Need-edition-of-requires
+edition-of-requires c κs = search rules
+
+digest-requires : tie.Need-digest-requires
+digest-requires c κs = omega (arith, width-high c.edition-of.result, second-width edition2 refl, c.before.before.before.before.requires)
+
+enum_told : tie.Need-enum-told
+enum_told c = search rules
+
+enum-known-best : tie.Need-enum-known-best
+enum-known-best c = search rules
+
+returns-2 : tie.Need-returns-2
+returns-2 c =
+    later-higher _ _ c.before.before.before.before.before.before.before.before.before.before.before.is-digest.ensures _ _ _ (c.before.before.before.before.before.before.before.before.digest.ensures ∙ ap (λ (L : Layout). digest_of L c.before.before.before.before.before.before.before.before.before.before.before.before.before.args.part.now) c.before.before.before.before.before.before.before.before.before.edition-of.ensures) (not-false _ c.before.before.before.before.before.before.before.before.before.before.if1.false) _ _ c.before.before.before.before.before.before.best.given.1 c.if2.true
+
+returns-3 : tie.Need-returns-3
+returns-3 c =
+    later_first _ _ c.before.before.before.before.before.is-digest.ensures _ _ _ (c.before.before.digest.ensures ∙ ap (λ (L : Layout). digest_of L c.before.before.before.before.before.before.before.args.part.now) c.before.before.before.edition-of.ensures) (not-false _ c.before.before.before.before.if1.false) c.enum_told.given.1
+
+returns-4 : tie.Need-returns-4
+returns-4 c =
+    later-lower _ _ c.before.before.before.before.before.before.before.before.before.before.before.is-digest.ensures _ _ _ (c.before.before.before.before.before.before.before.before.digest.ensures ∙ ap (λ (L : Layout). digest_of L c.before.before.before.before.before.before.before.before.before.before.before.before.before.args.part.now) c.before.before.before.before.before.before.before.before.before.edition-of.ensures) (not-false _ c.before.before.before.before.before.before.before.before.before.before.if1.false) _ _ c.before.before.before.before.before.before.best.given.1 c.if2.false
+
+pub later-spec : {M : Type 1} → statement M
+later-spec =
+    tie.close
+    (tie.spec
+    is-digest-requires
+    returns
+    edition-of-requires
+    digest-requires
+    enum_told
+    enum-known-best
+    returns-2
+    returns-3
+    returns-4)

@@ -1,0 +1,34 @@
+// What recovery reads of an area before it builds the index: the head, the scan of the log's slots, and versions that two
+// entries share. The helpers take N and S as `usize`; their caller has tested both and the area's length (cause 1).
+#![tactic(auto)]
+
+use segment::{Digest, Version};
+
+mod filter;
+pub mod head;
+mod hits;
+pub mod lengths;
+mod marks;
+mod parts;
+pub mod scan;
+pub mod slots;
+pub mod survey;
+mod suspects;
+mod table;
+pub mod versions;
+
+// The head's slot and digest, or that no slot has a digest.
+#[derive(Clone, Copy)]
+pub enum HeadFound {
+    Nothing,
+    At { slot: usize, digest: Digest },
+}
+
+// What a walk of the log has passed: whether it was undamaged, its highest version, 0 where it is empty, and whether the filter
+// told all versions apart.
+#[derive(Clone, Copy)]
+pub struct Passed {
+    pub sound: bool,
+    pub highest: Version,
+    pub apart: bool,
+}

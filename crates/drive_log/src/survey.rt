@@ -1,0 +1,59 @@
+// The survey of the log in one walk: damage, the highest version, and whether the filter tells all versions apart. Where it does,
+// no two entries share a version, and none of them needs a second look.
+ghost use Rattle.std.specs.Prelude.{◌+◌, ◌*◌, ◌≤◌, ◌≡◌, true, length};
+ghost use Rattle.slot_map.specs.Bit.{named};
+ghost use Rattle.model.specs.Log.{views_of, log_of};
+ghost use Rattle.drive_log.specs.Shape.{Shape};
+ghost use Rattle.drive_log.specs.Surveys.{Told, SlotTold, Surveyed};
+
+use crate::Passed;
+use crate::parts::survey_part;
+use crate::slots::is_named;
+use segment::Version;
+use segment::area::cut;
+use segment::reader::edition_of;
+
+// The entries of a slot, after those of the slots before it.
+fn survey_slot(
+    s: usize,
+    area: &[u8],
+    map: u32,
+    slot: usize,
+    filter: &mut [u32],
+    before: Passed,
+) -> Passed
+    requires s_in_bounds { slot * s + s ≤ length area.now }
+    requires slot_value { named map slot ≡ true }
+    requires told { Told (log_of (views_of area.now s) (named map) slot) before.highest.0 before.apart filter.old }
+    ensures { SlotTold (views_of area.now s) (named map) slot result.sound result.highest.0 result.apart filter.new }
+{
+    let part = cut(s, area, slot);
+    survey_part(edition_of(part), part, filter, before)
+}
+
+// The log of a map. What is free: the highest version and `apart` where the log is damaged; and where it is not, `apart` may be
+// false though no version is shared, for the filter may take two versions for one.
+pub fn survey(n: usize, s: usize, area: &[u8], map: u32) -> Passed
+    requires { Shape n s area.now }
+    ensures { Surveyed (views_of area.now s) (named map) n result.sound result.highest.0 result.apart }
+{
+    let mut filter = [0u32; 512];
+    let mut passed = Passed {
+        sound: true,
+        highest: Version(0),
+        apart: true,
+    };
+    let mut i = 0;
+    while i < n {
+        let slot = i;
+        i += 1;
+        if !is_named(map, slot) {
+            continue;
+        }
+        passed = survey_slot(s, area, map, slot, &mut filter, passed);
+        if !passed.sound {
+            return passed;
+        }
+    }
+    passed
+}
