@@ -44,7 +44,7 @@ sound-pair t all k n e =
       found_back = is-some k (look_back n all) (both_right (is_some n (lookup k all)) (is_some k (look_back n all)) stands);
     }
 
-sound-member : (t : ℕ) (all : List (ℕ × ℕ)) {ps : List (ℕ × ℕ)} (k n : ℕ) → Memᴰ (k, n) ps → sound_objects t all ps ≡ true → Sound t all k n
+sound-member : (t : ℕ) (all : List (ℕ × ℕ)) (k n : ℕ) {ps : List (ℕ × ℕ)} → Memᴰ (k, n) ps → sound_objects t all ps ≡ true → Sound t all k n
 unfolding sound_objects
 sound-member t all k n (Memᴰ.head {x = p} {xs = ps} q) e =
     subst (λ (x : ℕ × ℕ). Sound t all x.0 x.1) (sym q) (sound-pair t all p.0 p.1 (both_left _ (sound_objects t all ps) e))
@@ -212,7 +212,7 @@ all_kinds : (ℕ → Bool) → List (ℕ × ℕ) → Bool
 all_kinds t [] = true
 all_kinds t (p ∷ ps) = both (t p.0) (all_kinds t ps)
 
-of-all : (t : ℕ → Bool) {ps : List (ℕ × ℕ)} (k n : ℕ) → Memᴰ (k, n) ps → all_kinds t ps ≡ true → t k ≡ true
+of-all : (t : ℕ → Bool) (k n : ℕ) {ps : List (ℕ × ℕ)} → Memᴰ (k, n) ps → all_kinds t ps ≡ true → t k ≡ true
 unfolding all_kinds
 of-all t k n (Memᴰ.head {x = p} {xs = ps} q) e = ap (λ (x : ℕ × ℕ). t x.0) q ∙ both_left (t p.0) (all_kinds t ps) e
 of-all t k n (Memᴰ.tail {x = p} {xs = ps} m) e = of-all t k n m (both_right (t p.0) (all_kinds t ps) e)

@@ -1,0 +1,28 @@
+-- `cleaning::kept::found_kept` meets its contract.
+use native.Mathlib.Omega.{arith}
+use Rattle.cleaning.specs.KeptLaws.{kept-older, kept-object, kept-tombstone, kept_free, kept_full}
+use Rattle.cleaning.proofs.kept.found_kept.Goals as goal
+
+pub bounds-cells-i : goal.bounds-cells-i
+bounds-cells-i c = c.requires.found_inside _ c.in-At.is
+
+pub overflow_cast-cells : goal.overflow_cast-cells
+overflow_cast-cells c = omega (arith, c.type_inv.cells c.in-At.i)
+
+pub returns-then-cells-i : goal.returns-then-cells-i
+returns-then-cells-i c = kept-older _ _ _ _ _ _ c.in-At.is c.if-cells-i.true
+
+pub returns-then-not-header : goal.returns-then-not-header
+returns-then-not-header c =
+    kept-object _ _ _ _ _ _ c.in-At.is c.if-cells-i.false c.if-not-header.true
+
+pub returns-else-not-header : goal.returns-else-not-header
+returns-else-not-header c =
+    kept-tombstone _ _ _ _ _ _ c.in-At.is c.if-cells-i.false
+    c.if-not-header.false c.is_marked.ensures
+
+pub returns-in-Free : goal.returns-in-Free
+returns-in-Free c = kept_free _ _ _ _ _ _ c.in-Free.is
+
+pub returns-in-Full : goal.returns-in-Full
+returns-in-Full c = kept_full _ _ _ _ _ c.in-Full.is

@@ -1,0 +1,130 @@
+use Prim.Native.Nat.{◌+◌, ◌*◌, ◌≤◌, ◌<◌}
+use mathlib.Core.Bool.{true}
+use mathlib.Core.Path.{◌≡◌, refl, ◌∙◌, ap}
+use native.Mathlib.Omega.{arith}
+use lib.ListN.{length}
+use Rattle.segment.specs.Layout.{entry_size}
+use Rattle.segment.specs.LayoutLaws.{width-high}
+use Rattle.cleaning.specs.Kept.{kept_test, kept_entry}
+use Rattle.cleaning.specs.ChosenLaws.{choice-stop, choice-entry, choice-whole, length-choice}
+use Rattle.cleaning.specs.EntriesLaws.{Meets, meets, meets-long, stops_end, stops-damage, tombstone-length, area-short, slot-lies, slot-long, entry-lies, place_short}
+use Rattle.cleaning.specs.KeptLaws.{measured-whole, entry-short, measured-stop, measured-entry}
+use Rattle.cleaning.proofs.kept.measure_slot.Goals as goal
+use Rattle.cleaning.proofs.kept.measure_slot.Goals.{After-choose_kept-total, After-cut-s, In-Entry}
+
+-- the slot's part of the area is S bytes long
+long : (c : After-cut-s) → length c.cut-s.result.now ≡ c.args.split.size
+long c = slot-long c.requires.split_fits.0.slots _ c.requires.slot_lt_slots _ c.cut-s.ensures
+
+-- the entry that the turn meets, and its place
+met : (c : In-Entry)
+    → Meets c.args.edition c.cut-s.result.now c.loop-header.at c.in-Entry.header
+met c = meets _ _ _ _ c.next.ensures _ c.in-Entry.is
+
+-- a tombstone has no value
+tombstone-long : (c : In-Entry) → c.in-Entry.header.tombstone ≡ true
+    → c.in-Entry.header.length ≡ entry_size c.args.edition 0
+tombstone-long c t = tombstone-length _ _ _ (met c) t
+
+place : (c : In-Entry)
+    → let a = c.args in
+    a.slot * a.split.size + c.loop-header.at < 65536
+place c =
+    place_short c.requires.split_fits.0.slots _ c.requires.slot_lt_slots _ c.cut-s.ensures _ _ (met c).ranges (met c).some_byte
+
+-- the entry has a head at least, and lies within the area
+low : (c : In-Entry)
+    → entry_size c.args.edition 0 ≤ c.in-Entry.header.length
+low c = meets-long _ _ _ (met c)
+
+lies : (c : In-Entry)
+    → let a = c.args in
+    a.slot * a.split.size + c.loop-header.at + c.in-Entry.header.length ≤ length a.area.now
+lies c =
+    entry-lies c.requires.split_fits.0.slots _ c.requires.slot_lt_slots _ c.cut-s.ensures _ _ (met c).ranges
+
+short : (c : After-choose_kept-total) → c.choose_kept-total.result ≤ 2 * c.in-Entry.header.length
+short c =
+    let met : Meets c.args.edition c.cut-s.result.now c.loop-header.at c.in-Entry.header = meets _ _ _ _ c.next.ensures _ c.in-Entry.is in
+    let lies : let a = c.args in
+    a.slot * a.split.size + c.loop-header.at + c.in-Entry.header.length ≤ length a.area.now = entry-lies c.requires.split_fits.0.slots _ c.requires.slot_lt_slots _ c.cut-s.ensures _ _ (met).ranges in
+    let low : entry_size c.args.edition 0 ≤ c.in-Entry.header.length = meets-long _ _ _ (met) in
+    let a = c.args in
+    omega (
+      arith,
+      c.choose_kept-total.ensures.0,
+      entry-short a.into a.area.now a.cells.now a.marks.now a.edition c.in-Entry.header
+          (a.slot * a.split.size + c.loop-header.at) (low (lies,
+    )
+
+pub cut-s-requires : goal.cut-s-requires
+cut-s-requires c = slot-lies c.requires.split_fits.0.slots c.args.slot c.requires.slot_lt_slots
+
+pub loop-header-init : goal.loop-header-init
+loop-header-init c =
+    rw c.digest_size-at.ensures
+    (measured-whole _ _ _ _ _ _ _ _ c.cut-s.ensures, omega arith, omega (arith, long (goal.at.loop-header-init c).After-cut-s, c.requires.split_fits.0.slots.size_low, width-high c.args.edition), refl, refl)
+
+pub overflow_mul-slot : goal.overflow_mul-slot
+overflow_mul-slot c = omega (arith, place (goal.at.overflow_mul-slot c).In-Entry)
+
+pub overflow_add-slot : goal.overflow_add-slot
+overflow_add-slot c = omega (arith, place (goal.at.overflow_add-slot c).In-Entry)
+
+pub choose_kept-total-requires : goal.choose_kept-total-requires
+choose_kept-total-requires c =
+    let l = c.loop-header in
+    (
+      (c.requires.split_fits.0.marks-long, l.invariant.4 ∙ c.requires.split_fits.1),
+      ((lies (goal.at.choose_kept-total-requires c).In-Entry, area-short c.requires.split_fits.0.slots), (place (goal.at.choose_kept-total-requires c).In-Entry, low (goal.at.choose_kept-total-requires c).In-Entry),
+    )
+
+pub overflow_add-total : goal.overflow_add-total
+overflow_add-total c =
+    omega (arith, short (goal.at.overflow_add-total c).After-choose_kept-total, met (goal.at.overflow_add-total c).In-Entry, long (goal.at.overflow_add-total c).After-cut-s, c.loop-header.invariant.1)
+
+pub behind-at-requires : goal.behind-at-requires
+behind-at-requires c =
+    (omega (arith, met (goal.at.behind-at-requires c).In-Entry, long (goal.at.behind-at-requires c).After-cut-s, c.requires.split_fits.0.slots.size-high), tombstone-long (goal.at.behind-at-requires c).In-Entry
+
+pub loop-header-smaller : goal.loop-header-smaller
+loop-header-smaller c = omega (arith, c.behind-at.ensures, met (goal.at.loop-header-smaller c).In-Entry)
+
+pub loop-header-preserved : goal.loop-header-preserved
+loop-header-preserved c =
+    let l = c.loop-header in
+    let b = c.behind-at.ensures in (
+      measured-entry _ (kept_entry _ _ _ _) _ _ _ _ _ _ l.invariant.0 (met (goal.at.loop-header-preserved c).In-Entry _ c.choose_kept-total.ensures.0 _ b,
+      omega (arith, b, short (goal.at.loop-header-preserved c).After-choose_kept-total, l.invariant.1),
+      omega (arith, b, met (goal.at.loop-header-preserved c).In-Entry,
+      choice-entry (kept_test _ _ _) _ _ _ _ _ _ _ l.invariant.3 (met (goal.at.loop-header-preserved c).In-Entry _ c.choose_kept-total.ensures.1 _ b,
+      ap length c.choose_kept-total.ensures.1 ∙ length-choice (kept_test _ _ _) _ _ _ _ l.invariant.4,
+    )
+
+pub shape_of-chosen-in-End : goal.shape_of-chosen-in-End
+shape_of-chosen-in-End c = c.loop-header.invariant.4
+
+pub returns-in-End : goal.returns-in-End
+returns-in-End c =
+    let l = c.loop-header in
+    let a = c.args in
+    let stop = stops_end _ _ _ _ c.next.ensures c.in-End.is in (
+      measured-stop _ (kept_entry _ _ _ _) _ _ _ _ _ _ l.invariant.0 stop,
+      omega (arith, l.invariant.1, l.invariant.2, long (goal.at.returns-in-End c).After-cut-s, c.requires.split_fits.0.slots.size-high),
+      choice-stop (kept_test _ _ _) _ _ _ _ _ _ _ l.invariant.3 stop
+          ∙ choice-whole (kept_test a.area.now a.cells.now a.marks.now) a.split.size _ a.area.now a.chosen.now a.slot _ c.cut-s.ensures,
+    )
+
+pub shape_of-chosen-in-Damage : goal.shape_of-chosen-in-Damage
+shape_of-chosen-in-Damage c = c.loop-header.invariant.4
+
+pub returns-in-Damage : goal.returns-in-Damage
+returns-in-Damage c =
+    let l = c.loop-header in
+    let a = c.args in
+    let stop = stops-damage _ _ _ _ c.next.ensures c.in-Damage.is in (
+      measured-stop _ (kept_entry _ _ _ _) _ _ _ _ _ _ l.invariant.0 stop,
+      omega (arith, l.invariant.1, l.invariant.2, long (goal.at.returns-in-Damage c).After-cut-s, c.requires.split_fits.0.slots.size-high),
+      choice-stop (kept_test _ _ _) _ _ _ _ _ _ _ l.invariant.3 stop
+          ∙ choice-whole (kept_test a.area.now a.cells.now a.marks.now) a.split.size _ a.area.now a.chosen.now a.slot _ c.cut-s.ensures,
+    )

@@ -1,0 +1,130 @@
+use Prim.Native.Nat.{◌+◌, ◌*◌, ◌≤◌, ◌<◌}
+use mathlib.Core.Path.{◌≡◌, refl, sym, ◌∙◌}
+use native.Mathlib.Omega.{arith}
+use lib.ListN.{length}
+use Rattle.cleaning.specs.ChosenLaws.{chosen_from, chosen-whole, chosen-stop}
+use Rattle.cleaning.specs.EntriesLaws.{Meets, meets, stops_end, stops-damage, tombstone-length, slot-lies, slot-long, place_short, area-short}
+use Rattle.cleaning.specs.Runs.{Run, stretch, run-as, run-first, run-passed, stretch-room, stretch-copied}
+use Rattle.segment.specs.Copied.{copied_none, copying-start, copying-room, copying-next, copying-end}
+use Rattle.cleaning.proofs.runs.copy_runs.Goals as goal
+use Rattle.cleaning.proofs.runs.copy_runs.Goals.{After-cut-s, After-run_behind-at, In-Entry}
+
+-- the slot's part of the area is S bytes long
+long : (c : After-cut-s) → length c.cut-s.result.now ≡ c.args.split.size
+long c = slot-long c.requires.chosen_fits.slots _ c.requires.slot_lt_slots _ c.cut-s.ensures
+
+-- the entry that the turn meets, and its place
+met : (c : In-Entry)
+    → Meets c.args.edition c.cut-s.result.now c.loop-header.at c.in-Entry.header
+met c = meets _ _ _ _ c.next.ensures _ c.in-Entry.is
+
+place : (c : In-Entry)
+    → let a = c.args in
+    a.slot * a.split.size + c.loop-header.at < 65536
+place c =
+    place_short c.requires.chosen_fits.slots _ c.requires.slot_lt_slots _ c.cut-s.ensures _ _ (met c).ranges (met c).some_byte
+
+-- the run that begins with a chosen entry
+the-run : (k : After-run_behind-at)
+    → let a =
+    let met : Meets k.args.edition k.cut-s.result.now k.loop-header.at k.in-Entry.header = meets _ _ _ _ k.next.ensures _ k.in-Entry.is in
+    k.args in
+    Run a.edition a.area.now a.chosen.now a.split.size a.slot k.cut-s.result.now k.loop-header.at k.run_behind-at.result
+the-run k =
+    run-first _ _ _ _ _ _ _ (met _ k.behind-at.ensures _ (run-as (sym k.cut-s.ensures) k.run_behind-at.ensures)
+    (sym k.is_chosen.ensures ∙ k.if-is_chosen.true)
+
+-- it lies within the slot, which lies in the area
+lies : (k : After-run_behind-at)
+    → let a =
+    let long : length k.cut-s.result.now ≡ k.args.split.size = slot-long k.requires.chosen_fits.slots _ k.requires.slot_lt_slots _ k.cut-s.ensures in
+    k.args in
+    a.slot * a.split.size + k.run_behind-at.result ≤ length a.area.now
+lies k =
+    omega (arith, (the-run k).high, long, slot-lies k.requires.chosen_fits.slots k.args.slot k.requires.slot_lt_slots)
+
+-- and the work buffer has room for it
+room : (k : After-run_behind-at)
+    → let a = k.args in
+    k.loop-header.to + length (stretch a.area.now a.split.size a.slot k.loop-header.at k.run_behind-at.result) ≤ length k.loop-header.work
+room k =
+    let a = k.args in
+    copying-room k.loop-header.invariant k.requires.slot_in_bounds
+    (stretch a.area.now a.split.size a.slot k.loop-header.at k.run_behind-at.result)
+    (chosen_from a.edition a.edition a.area.now a.chosen.now a.split.size a.slot k.cut-s.result.now k.run_behind-at.result)
+    (the-run k).parts
+
+pub cut-s-requires : goal.cut-s-requires
+cut-s-requires c = slot-lies c.requires.chosen_fits.slots c.args.slot c.requires.slot_lt_slots
+
+pub overflow_mul-start : goal.overflow_mul-start
+overflow_mul-start c = omega (arith, slot-lies c.requires.chosen_fits.slots c.args.slot c.requires.slot_lt_slots, area-short c.requires.chosen_fits.slots)
+
+pub loop-header-init : goal.loop-header-init
+loop-header-init c = rw c.digest_size-at.ensures (copying-start _ _ _ _ (chosen-whole _ _ _ _ _ _ _ c.cut-s.ensures))
+
+pub behind-at-requires : goal.behind-at-requires
+behind-at-requires c =
+    record {
+      length_bound = omega (arith, met c, long (goal.at.behind-at-requires c).After-cut-s, c.requires.chosen_fits.slots.size-high);
+      length_value = tombstone-length _ _ _ (met c);
+    }
+
+pub overflow_add-start : goal.overflow_add-start
+overflow_add-start c = omega (arith, place (goal.at.overflow_add-start c).In-Entry)
+
+pub is_chosen-requires : goal.is_chosen-requires
+is_chosen-requires c = c.requires.chosen_fits.chosen-long
+
+pub run_behind-at-requires : goal.run_behind-at-requires
+run_behind-at-requires c =
+    record {
+      chosen_fits = c.requires.chosen_fits;
+      slot_lt_slots = c.requires.slot_lt_slots;
+      from_le_size = omega (arith, c.behind-at.ensures, (met (goal.at.run_behind-at-requires c).In-Entry).fits, long (goal.at.run_behind-at-requires c).After-cut-s);
+    }
+
+pub overflow_add-start-then-is_chosen : goal.overflow_add-start-then-is_chosen
+overflow_add-start-then-is_chosen c = omega (arith, place (goal.at.overflow_add-start-then-is_chosen c).In-Entry)
+
+pub overflow_add-start-then-is_chosen-2 : goal.overflow_add-start-then-is_chosen-2
+overflow_add-start-then-is_chosen-2 c = omega (arith, lies (goal.at.overflow_add-start-then-is_chosen-2 c).After-run_behind-at, area-short c.requires.chosen_fits.slots)
+
+pub slice_bounds-copy_into-count : goal.slice_bounds-copy_into-count
+slice_bounds-copy_into-count c = omega (arith, (the-run (goal.at.slice_bounds-copy_into-count c).After-run_behind-at).low)
+
+pub copy_into-requires : goal.copy_into-requires
+copy_into-requires c =
+    stretch-room _ _ _ _ _ (the-run (goal.at.copy_into-requires c).After-run_behind-at.low (lies (goal.at.copy_into-requires c).After-run_behind-at _ _ (room (goal.at.copy_into-requires c).After-run_behind-at
+
+pub overflow_sub-to : goal.overflow_sub-to
+overflow_sub-to c = (the-run (goal.at.overflow_sub-to c).After-run_behind-at).low
+
+pub loop-header-smaller-then-is_chosen : goal.loop-header-smaller-then-is_chosen
+loop-header-smaller-then-is_chosen c =
+    omega (arith, c.behind-at.ensures, c.run_behind-at.ensures.low, (the-run (goal.at.loop-header-smaller-then-is_chosen c).After-run_behind-at.high, met (goal.at.loop-header-smaller-then-is_chosen c).In-Entry)
+
+pub loop-header-preserved-then-is_chosen : goal.loop-header-preserved-then-is_chosen
+loop-header-preserved-then-is_chosen c =
+    copying-next c.loop-header.invariant _ _ _ _ (the-run (goal.at.loop-header-preserved-then-is_chosen c).After-run_behind-at.parts (stretch-copied _ _ _ _ _ (the-run (goal.at.loop-header-preserved-then-is_chosen c).After-run_behind-at.low (lies (goal.at.loop-header-preserved-then-is_chosen c).After-run_behind-at _ _ _ c.copy_into.ensures)
+
+pub loop-header-smaller : goal.loop-header-smaller
+loop-header-smaller c = omega (arith, c.behind-at.ensures, met (goal.at.loop-header-smaller c).In-Entry)
+
+pub loop-header-preserved : goal.loop-header-preserved
+loop-header-preserved c =
+    copying-next c.loop-header.invariant _ _ _ _
+    (run-passed _ _ _ _ _ _ _ (met (goal.at.loop-header-preserved c).In-Entry _ c.behind-at.ensures (sym c.is_chosen.ensures ∙ c.if-is_chosen.false))
+    (copied_none _ _ _ refl)
+
+pub shape_of-work-in-End : goal.shape_of-work-in-End
+shape_of-work-in-End c = c.loop-header.invariant.long
+
+pub returns-in-End : goal.returns-in-End
+returns-in-End c = copying-end c.loop-header.invariant (chosen-stop _ _ _ _ _ _ _ _ (stops_end _ _ _ _ c.next.ensures c.in-End.is))
+
+pub shape_of-work-in-Damage : goal.shape_of-work-in-Damage
+shape_of-work-in-Damage c = c.loop-header.invariant.long
+
+pub returns-in-Damage : goal.returns-in-Damage
+returns-in-Damage c = copying-end c.loop-header.invariant (chosen-stop _ _ _ _ _ _ _ _ (stops-damage _ _ _ _ c.next.ensures c.in-Damage.is))

@@ -1,0 +1,53 @@
+-- `converting::convert::convert` meets its contract: a law for each return.
+use mathlib.Core.Bool.{true, false}
+use mathlib.Core.Path.{◌≡◌, sym, ◌∙◌}
+use lib.ListN.{length}
+use Rattle.model.specs.Log.{views_of}
+use Rattle.model.specs.Recovery.{geometry_bad}
+use Rattle.recovery.specs.Recovering.{image_of}
+use Rattle.recovery.specs.declared.Image.{Image}
+use Rattle.converting.specs.ConvertLaws.{area-shape, convert-source, convert-target, convert-refused, sound-log, sound-top, convert-sound}
+use Rattle.converting.proofs.convert.convert.Goals as goal
+use Rattle.converting.proofs.convert.convert.Goals.{Else-geometry_bad-2, In-Sound}
+
+pub returns-then-geometry_bad : goal.returns-then-geometry_bad
+returns-then-geometry_bad c =
+    let a = c.args in convert-source a.n a.s a.source.now a.target.now (sym c.geometry_bad.ensures ∙ c.if-geometry_bad.true)
+
+pub returns-then-geometry_bad-2 : goal.returns-then-geometry_bad-2
+returns-then-geometry_bad-2 c =
+    let a = c.args in convert-target a.n a.s a.source.now a.target.now (sym c.geometry_bad-2.ensures ∙ c.if-geometry_bad-2.true)
+
+-- neither buffer is of another length
+source_fits : (c : Else-geometry_bad-2) → let a = c.args in geometry_bad a.n a.s (length a.source.now) ≡ false
+source_fits c = sym c.geometry_bad.ensures ∙ c.if-geometry_bad.false
+
+target_fits : (c : Else-geometry_bad-2) → let a = c.args in geometry_bad a.n a.s (length a.target.now) ≡ false
+target_fits c = sym c.geometry_bad-2.ensures ∙ c.if-geometry_bad-2.false
+
+pub look_at-requires : goal.look_at-requires
+look_at-requires c = let a = c.args in area-shape a.n a.s a.source.now (source_fits c)
+
+-- the head that was found
+found : (c : In-Sound)
+    → let a = c.args in
+    image_of true (views_of a.source.now a.s) a.n ≡
+    Image.Sound c.in-Sound.edition c.in-Sound.slot c.in-Sound.digest c.in-Sound.highest
+found c = sym c.look_at.ensures ∙ c.in-Sound.is
+
+pub convert_log-requires : goal.convert_log-requires
+convert_log-requires c =
+    let a = c.args in (
+      (area-shape a.n a.s a.source.now (source_fits (goal.at.convert_log-requires c).Else-geometry_bad-2, sound-log a.n a.s a.source.now a.target.now (source_fits (goal.at.convert_log-requires c).Else-geometry_bad-2 (target_fits (goal.at.convert_log-requires c).Else-geometry_bad-2 _ _ _ _ (found (goal.at.convert_log-requires c).In-Sound)),
+      (sound-top a.n a.s a.source.now a.target.now (source_fits (goal.at.convert_log-requires c).Else-geometry_bad-2 (target_fits (goal.at.convert_log-requires c).Else-geometry_bad-2 _ _ _ _ (found (goal.at.convert_log-requires c).In-Sound), (area-shape a.n a.s a.target.now (target_fits (goal.at.convert_log-requires c).Else-geometry_bad-2).whole),
+    )
+
+pub returns-in-Refused : goal.returns-in-Refused
+returns-in-Refused c =
+    let a = c.args in
+    convert-refused a.n a.s a.source.now a.target.now (source_fits (goal.at.returns-in-Refused c).Else-geometry_bad-2 (target_fits (goal.at.returns-in-Refused c).Else-geometry_bad-2 _ (sym c.look_at.ensures ∙ c.in-Refused.is)
+
+pub returns-in-Sound : goal.returns-in-Sound
+returns-in-Sound c =
+    let a = c.args in
+    convert-sound a.n a.s a.source.now a.target.now (source_fits (goal.at.returns-in-Sound c).Else-geometry_bad-2 (target_fits (goal.at.returns-in-Sound c).Else-geometry_bad-2 _ _ _ _ (found (goal.at.returns-in-Sound c).In-Sound) _ _ c.convert_log.ensures

@@ -1,0 +1,80 @@
+use Prim.Native.Nat.{◌+◌, ◌≤◌, ◌<◌}
+use mathlib.Core.Path.{◌≡◌, refl, ◌∙◌}
+use native.Mathlib.Omega.{arith}
+use lib.ListN.{length}
+use borrow.Author.Rules.{rules}
+use Rattle.segment.specs.Entries.{next-tombstone}
+use Rattle.index.specs.Turns.{slot-start, slot-end, slot-damage, slot-fits, slot-over, slot_next, slot-few}
+use Rattle.index.proofs.build.index_slot.Goals as goal
+use Rattle.index.proofs.build.index_slot.Goals.{After-index_entry, In-Entry}
+
+pub loop-header-init : goal.loop-header-init
+loop-header-init c = (
+  refl,
+  search rules,
+  slot-start _ _ _ _ _ _ _ c.digest_size-at.ensures,
+)
+
+-- an entry that is met lies within the segment
+fits : (c : In-Entry) →
+    (0 < c.in-Entry.header.length)
+    × (c.loop-header.at + c.in-Entry.header.length ≤ c.args.size)
+fits c =
+    slot-fits _ _ _ _ _ _ _ _ c.loop-header.invariant.2 _ c.cut-s.ensures _ c.next.ensures _ c.in-Entry.is
+    c.requires.0
+
+-- the cells stay as many
+long : (c : After-index_entry) →
+    length c.index_entry.new.1.0 ≡ length c.args.cells.now
+long c = c.index_entry.auto.1.0 ∙ c.loop-header.invariant.0
+
+pub overflow_add-place : goal.overflow_add-place
+overflow_add-place c = omega (arith, fits c)
+
+pub index_entry-requires : goal.index_entry-requires
+index_entry-requires c =
+    let f = fits (goal.at.index_entry-requires c).In-Entry in
+    (omega arith, c.loop-header.invariant.1)
+
+pub shape_of-cells-in_default : goal.shape_of-cells-in_default
+shape_of-cells-in_default c = long (goal.at.shape_of-cells-in_default c).After-index_entry
+
+pub returns-in_default : goal.returns-in_default
+returns-in_default c =
+    slot-over _ _ _ _ _ _ _ _ c.loop-header.invariant.2 _ c.cut-s.ensures _ c.next.ensures _ c.in-Entry.is _ _
+    c.index_entry.ensures c.in_default.is
+
+-- a segment is shorter than the bound of the way to the next entry, and a tombstone has no value
+pub behind-at-requires : goal.behind-at-requires
+behind-at-requires c =
+    (
+      omega (arith, fits (goal.at.behind-at-requires c).In-Entry,
+      next-tombstone _ _ _ _ c.next.ensures _ c.in-Entry.is,
+    )
+
+pub loop-header-smaller : goal.loop-header-smaller
+loop-header-smaller c = omega (arith, c.behind-at.ensures, fits (goal.at.loop-header-smaller c).In-Entry)
+
+pub loop-header-preserved : goal.loop-header-preserved
+loop-header-preserved c =
+    (
+      long (goal.at.loop-header-preserved c).After-index_entry,
+      slot-few _ _ _ _ _ _ _ _ c.loop-header.invariant.2 _ c.cut-s.ensures _ c.next.ensures _ c.in-Entry.is _ _ c.index_entry.ensures _
+          c.in-Keys.is c.loop-header.invariant.1,
+      slot_next _ _ _ _ _ _ _ _ c.loop-header.invariant.2 _ c.cut-s.ensures _ c.next.ensures _ c.in-Entry.is _ _ c.index_entry.ensures _
+          c.in-Keys.is _ c.behind-at.ensures,
+    )
+
+pub shape_of-cells-in-End : goal.shape_of-cells-in-End
+shape_of-cells-in-End c = c.loop-header.invariant.0
+
+pub returns-in-End : goal.returns-in-End
+returns-in-End c =
+    slot-end _ _ _ _ _ _ _ _ c.loop-header.invariant.2 _ c.cut-s.ensures _ c.next.ensures c.in-End.is
+
+pub shape_of-cells-in-Damage : goal.shape_of-cells-in-Damage
+shape_of-cells-in-Damage c = c.loop-header.invariant.0
+
+pub returns-in-Damage : goal.returns-in-Damage
+returns-in-Damage c =
+    slot-damage _ _ _ _ _ _ _ _ c.loop-header.invariant.2 _ c.cut-s.ensures _ c.next.ensures c.in-Damage.is

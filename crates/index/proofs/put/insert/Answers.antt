@@ -1,0 +1,69 @@
+-- `index::put::insert` meets its contract: a law for each arm, at what the search found.
+use mathlib.Core.Path.{◌≡◌, sym, ◌∙◌, ap}
+use Prim.Native.Nat.{ℕ, ◌-◌}
+use lib.ListN.{get_or}
+use mathlib.Core.List.{List}
+use Rattle.index.specs.declared.Inserted.{Inserted}
+use native.Mathlib.Omega.{arith}
+use Rattle.segment.specs.declared.Version.{Version}
+use Rattle.index.specs.declared.Found.{Found}
+use Rattle.index.specs.Search.{search_for}
+use Rattle.index.specs.SearchLaws.{Inside, search-inside, search-free}
+use Rattle.index.specs.InsertLaws.{insert-newer, insert-older, insert-new, insert-full}
+use Rattle.index.proofs.put.insert.Goals as goal
+use Rattle.index.proofs.put.insert.Goals.{After-search, In-At, In-Free}
+
+-- what the search found
+abbrev found : After-search → Found
+found c =
+    let a = c.before.before.before.before.args in
+    search_for a.area.now a.cells.now a.key
+
+is_free : (c : In-Free) → found c.before.before ≡ Found.Free c.in-Free.i
+is_free c = sym c.search.ensures ∙ c.in-Free.is
+
+is_at : (c : In-At) → found c.before.before ≡ Found.At c.in-At.i
+is_at c = sym c.search.ensures ∙ c.in-At.is
+
+inside : (c : In-At) → let a = c.args in Inside a.area.now a.cells.now c.in-At.i
+inside c = search-inside _ _ _ c.in-At.i (is_at c)
+
+pub put-requires : goal.put-requires
+put-requires c = (search-free _ _ _ _ (is_free (goal.at.put-requires c).In-Free), omega arith)
+
+pub bounds-cells-i : goal.bounds-cells-i
+bounds-cells-i c = (inside (goal.at.bounds-cells-i c).In-At).below
+
+pub overflow_sub-old : goal.overflow_sub-old
+overflow_sub-old c = (inside (goal.at.overflow_sub-old c).In-At).taken
+
+pub overflow_cast-old : goal.overflow_cast-old
+overflow_cast-old c = omega (arith, c.type_inv.cells c.in-At.i)
+
+pub version_there-there-requires : goal.version_there-there-requires
+version_there-there-requires c = omega (arith, (inside (goal.at.version_there-there-requires c).In-At).fits)
+
+pub put-requires-then-there-version : goal.put-requires-then-there-version
+put-requires-then-there-version c = ((inside (goal.at.put-requires-then-there-version c).In-At).below, omega arith)
+
+pub returns-then-there-version : goal.returns-then-there-version
+returns-then-there-version c =
+    ap
+    (λ (l : List ℕ).
+    record { answer = Inserted.Newer (get_or c.args.cells.now c.in-At.i 0 - 1); cells = l })
+    c.put-then-there-version.ensures
+    ∙ sym
+    (insert-newer _ _ _ _ _ _ (is_at (goal.at.returns-then-there-version c).In-At (rw (ap (λ (x : Version). x.0) c.version_there-there.ensures) at c.if-there-version.true))
+
+pub returns-in-Full : goal.returns-in-Full
+returns-in-Full c = sym (insert-full _ _ _ _ _ (sym c.search.ensures ∙ c.in-Full.is))
+
+pub returns-in-Free : goal.returns-in-Free
+returns-in-Free c =
+    ap (λ (l : List ℕ). record { answer = Inserted.New; cells = l }) c.put.ensures
+    ∙ sym (insert-new _ _ _ _ _ _ (is_free (goal.at.returns-in-Free c).In-Free))
+
+pub returns-else-there-version : goal.returns-else-there-version
+returns-else-there-version c =
+    sym
+    (insert-older _ _ _ _ _ _ (is_at (goal.at.returns-else-there-version c).In-At) (rw (ap (λ (x : Version). x.0) c.version_there-there.ensures) at c.if-there-version.false))

@@ -1,0 +1,47 @@
+-- `joining::notes::note_key` meets its contract.
+use mathlib.Core.Path.{◌≡◌, sym, ◌∙◌}
+use native.Mathlib.Omega.{arith}
+use Rattle.index.specs.declared.Found.{Found}
+use Rattle.index.specs.Search.{search_for}
+use Rattle.index.specs.SearchLaws.{search-inside}
+use Rattle.joining.specs.NotesLaws.{slot-low, key-own, key-older, key-free, key-full}
+use Rattle.joining.proofs.notes.note_key.Goals as goal
+use Rattle.joining.proofs.notes.note_key.Goals.{In-At}
+
+-- what the search found
+is_at : (c : In-At)
+    → let a = c.args in search_for a.area.now a.cells.now a.key ≡ Found.At c.in-At.i
+is_at c = sym c.search.ensures ∙ c.in-At.is
+
+pub bounds-cells-i : goal.bounds-cells-i
+bounds-cells-i c = (search-inside _ _ _ _ (is_at (goal.at.bounds-cells-i c).In-At)).below
+
+pub overflow_cast-newest : goal.overflow_cast-newest
+overflow_cast-newest c = omega (arith, c.type_inv.cells c.in-At.i)
+
+pub overflow_add-place : goal.overflow_add-place
+overflow_add-place c = omega (arith, slot-low c.args.slot c.args.size c.requires.slot_bound c.requires.size_bound, c.requires.place_bound)
+
+pub returns-then-newest-place : goal.returns-then-newest-place
+returns-then-newest-place c =
+    key-own _ _ _ _ _ _ _ _ _ (is_at (goal.at.returns-then-newest-place c).In-At) c.if-newest-place.true c.requires.size_bound_2 c.requires.place_bound
+
+pub note_cell-requires : goal.note_cell-requires
+note_cell-requires c =
+    let w = search-inside _ _ _ _ (is_at (goal.at.note_cell-requires c).In-At) in 
+    record {
+      newest_nonzero = w.taken;
+      newest_bound = omega (arith, w.fits, c.requires.area_len_bound);
+      notes_len = c.requires.notes_len;
+      slot_bound = c.requires.slot_bound;
+      size_bound = c.requires.size_bound;
+    }
+
+pub returns-else-newest-place : goal.returns-else-newest-place
+returns-else-newest-place c = key-older _ _ _ _ _ _ _ _ _ _ (is_at (goal.at.returns-else-newest-place c).In-At) c.if-newest-place.false c.note_cell.ensures
+
+pub returns-in-Free : goal.returns-in-Free
+returns-in-Free c = key-free _ _ _ _ _ _ _ _ _ (sym c.search.ensures ∙ c.in-Free.is)
+
+pub returns-in-Full : goal.returns-in-Full
+returns-in-Full c = key-full _ _ _ _ _ _ _ _ (sym c.search.ensures ∙ c.in-Full.is)

@@ -1,0 +1,14 @@
+-- `recovery::recover::recover` meets its contract.
+use mathlib.Core.Path.{sym, ◌∙◌}
+use Rattle.recovery.specs.CheckLaws.{check-refused, check-passed}
+use Rattle.recovery.specs.RecoverPromises.{lent-promise}
+use Rattle.recovery.proofs.recover.recover.Goals as goal
+
+pub recover_image-requires : goal.recover_image-requires
+recover_image-requires c = check-passed _ (sym c.check_lent.ensures ∙ c.in-Passed.is)
+
+pub returns-in-Refused : goal.returns-in-Refused
+returns-in-Refused c =
+    let a = c.args in
+    lent-promise _ a.n a.s a.order.now a.area.now a.index.now _ _
+    (check-refused _ _ (sym c.check_lent.ensures ∙ c.in-Refused.is)) c.refused.ensures

@@ -1,0 +1,16 @@
+-- `report::lines::put_field` meets its contract.
+use native.Mathlib.Omega.{arith}
+use Rattle.text.specs.Put.{put-length}
+use Rattle.report.specs.PutLaws.{number-room, field-within}
+use Rattle.report.proofs.lines.put_field.Goals as goal
+
+pub put_number-end-requires : goal.put_number-end-requires
+put_number-end-requires c = omega (arith, number-room c.args.n (omega arith), c.requires)
+
+pub put-requires : goal.put-requires
+put-requires c =
+    let number = c.put_number-end.ensures in
+    omega (arith, number-room c.args.n (omega arith), number.end, put-length number, c.requires)
+
+pub returns : goal.returns
+returns c = field-within _ (number-room _ (omega arith)) c.put_number-end.ensures c.put.ensures

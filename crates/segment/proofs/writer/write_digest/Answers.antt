@@ -1,0 +1,38 @@
+-- `segment::writer::write_digest` meets its contract.
+use Prim.Native.Nat.{ℕ, ◌+◌}
+use mathlib.Core.Path.{◌∙◌, ap}
+use native.Mathlib.Omega.{arith}
+use lib.ListN.{set, length-set}
+use lib.Seq.{sets}
+use Rattle.word.specs.Number.{bytes_of}
+use Rattle.segment.specs.Layout.{table}
+use Rattle.segment.specs.Written.{sets-packed}
+use Rattle.segment.specs.LayoutLaws.{width_low}
+use Rattle.segment.proofs.writer.write_digest.Goals as goal
+
+pub write32-requires : goal.write32-requires
+write32-requires c =
+    let a = c.args in
+    omega (arith, width_low a.edition, length-set a.s.now a.at c.digest_kind-kind.result)
+
+pub write32-requires-2 : goal.write32-requires-2
+write32-requires-2 c =
+    let a = c.args in
+    omega (arith, width_low a.edition, length-set a.s.now a.at c.digest_kind-kind.result)
+
+pub write_version-requires : goal.write_version-requires
+write_version-requires c =
+    let a = c.args in
+    omega (arith, width_low a.edition, length-set a.s.now a.at c.digest_kind-kind.result)
+
+pub shape_of-s : goal.shape_of-s
+shape_of-s c =
+    let a = c.args in
+    omega (arith, width_low a.edition, length-set a.s.now a.at c.digest_kind-kind.result)
+
+pub returns : goal.returns
+returns c =
+    let a = c.args in
+    sets-packed (table a.edition).digest_kind 4 4 (table a.edition).width a.d.number.0 a.d.map a.d.next.0 a.at a.s.now _ _ _
+    (c.write32.ensures ∙ ap (λ (k : ℕ). sets (set a.s.now a.at k) (a.at + 1) (bytes_of 4 a.d.number.0)) c.digest_kind-kind.ensures)
+    c.write32-2.ensures c.write_version.ensures
