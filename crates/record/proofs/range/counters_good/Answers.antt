@@ -1,4 +1,5 @@
 -- `record::range::counters_good` meets its contract.
+use mathlib.Core.Bool.{not}
 use Prim.Native.Nat.{ℕ}
 use mathlib.Core.Path.{◌≡◌, refl, sym, ◌∙◌, ap}
 use Rattle.segment.specs.Choice.{both-false-left}
@@ -19,21 +20,21 @@ end-tested k = k.between.ensures ∙ ap (λ (n : ℕ). between n (tested k).size
 
 pub returns-then-not-between : goal.returns-then-not-between
 unfolding counters_good
-returns-then-not-between c = stop _ (end-tested (goal.at.returns-then-not-between c).After-between) c.if-not-between.true
+returns-then-not-between c = stop _ (end-tested (goal.at.returns-then-not-between c).After-between) (ap not c.if-not-between.true)
 
 pub returns-then-number-eq0 : goal.returns-then-number-eq0
 unfolding counters_good
 returns-then-number-eq0 c =
-    go _ (end-tested (goal.at.returns-then-number-eq0 c).After-between) c.if-not-between.false (sym (both-false-left _ _ (zero-not _ c.if-number-eq0.true)))
+    go _ (end-tested (goal.at.returns-then-number-eq0 c).After-between) (ap not c.if-not-between.false) (sym (both-false-left _ _ (zero-not _ c.if-number-eq0.true)))
 
 pub returns-then-next_good : goal.returns-then-next_good
 unfolding counters_good
 returns-then-next_good c =
-    go _ (end-tested (goal.at.returns-then-next_good c).After-between) c.if-not-between.false
+    go _ (end-tested (goal.at.returns-then-next_good c).After-between) (ap not c.if-not-between.false)
     (goes _ refl (some-not _ c.if-number-eq0.false) (goes _ c.next_good.ensures c.if-next_good.true refl))
 
 pub returns-else-next_good : goal.returns-else-next_good
 unfolding counters_good
 returns-else-next_good c =
-    go _ (end-tested (goal.at.returns-else-next_good c).After-between) c.if-not-between.false
+    go _ (end-tested (goal.at.returns-else-next_good c).After-between) (ap not c.if-not-between.false)
     (goes _ refl (some-not _ c.if-number-eq0.false) (ends _ c.next_good.ensures c.if-next_good.false))
