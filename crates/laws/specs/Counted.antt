@@ -231,6 +231,7 @@ present-size-same a b x h = ap (λ (t : Bool). pick t (placed_size x) 0) (presen
 
 absent-version : (ys : List Placed) (v : ℕ) → has_version ys v ≡ false → (y : Placed) → In y ys → y.entry.version ≡ v → ⊥
 unfolding has_version
+absent-version [] v q y m e = elim m [ ]
 absent-version (w ∷ ws) v q y (Memᴰ.head d) e =
     eqb-false w.entry.version v (either-false-left (eqb w.entry.version v) (has_version ws v) q)
     (ap (λ (u : Placed). u.entry.version) (sym d) ∙ e)
@@ -241,6 +242,7 @@ absent-version (w ∷ ws) v q y (Memᴰ.tail d) e =
 pub one-version : (g : Placed → ℕ) (i : ℕ) (xs : List Placed) (z : Placed) → version_shared xs ≡ false → In z xs
     → slot_total (λ (y : Placed). pick (eqb z.entry.version y.entry.version) (g y) 0) i xs ≡ pick (eqb z.slot i) (g z) 0
 unfolding version_shared
+one-version g i [] z apart m = elim m [ ]
 one-version g i (x ∷ xs) z apart (Memᴰ.head d) =
     slot-total-cons h i x xs
     ∙ omega (

@@ -89,7 +89,7 @@ module _ (v : ℕ) (e : Entry) where
       go (put-for z i p q) = put-for z (Memᴰ.tail i) p q
 
   -- the new entry is there
-  pub put-there : {log : List Placed} {x : Placed} → In x log → x.entry.version ≡ v → (y : Placed) × In y (replaced v e log) × y.entry ≡ e
+  pub put-there : {x : Placed} {log : List Placed} → In x log → x.entry.version ≡ v → (y : Placed) × In y (replaced v e log) × y.entry ≡ e
   unfolding replaced
   put-there {x = x} (Memᴰ.head {x = z} {xs = zs} d) p =
       (_, first, instead-own z.entry (ap (λ (u : Placed). u.entry.version) (sym d) ∙ p))

@@ -142,6 +142,7 @@ latest-same a b k s d = sym (latest-unique b k (latest a k) (apart-same s d) (la
 
 pub has-key : (log : List Placed) (k : Key) (x : Placed) → In x log → same_key k x.entry ≡ true → has_key log k ≡ true
 unfolding has_key
+has-key [] k x m p = elim m [ ]
 has-key (y ∷ ys) k x (Memᴰ.head e) p =
     either-true-left (same_key k y.entry) (has_key ys k) (ap (λ (w : Placed). same_key k w.entry) (sym e) ∙ p)
 has-key (y ∷ ys) k x (Memᴰ.tail m) p = either-true-right (same_key k y.entry) (has_key ys k) (has-key ys k x m p)

@@ -133,7 +133,7 @@ kept-those victims log (x ∷ xs) = go (is_kept victims log x) (kept-those victi
     go false ih = unfold pick in ih
 
 -- an object of the key outside the victims is seen
-pub object-seen : (victims : ℕ) (k : Key) {log : List Placed} {x : Placed} → In x log → named victims x.slot ≡ false →
+pub object-seen : (victims : ℕ) (k : Key) {x : Placed} {log : List Placed} → In x log → named victims x.slot ≡ false →
     same_key k x.entry ≡ true → is_tombstone x.entry ≡ false → object_outside victims log k ≡ true
 unfolding object_outside
 object-seen victims k {x = x} (Memᴰ.head {x = y} {xs = ys} e) p q r =

@@ -128,11 +128,12 @@ entries-append [] b = refl
 entries-append (x ∷ a) b = rw (entries-append a b)
 
 -- each entry is that of a member, and each member's is one
-pub entry_in : {log : List Placed} {x : Placed} → In x log → In x.entry (entries_of log)
+pub entry_in : {x : Placed} {log : List Placed} → In x log → In x.entry (entries_of log)
 entry_in (Memᴰ.head e) = Memᴰ.head (ap (λ (y : Placed). y.entry) e)
 entry_in (Memᴰ.tail m) = Memᴰ.tail (entry_in m)
 
 pub entry_of : (log : List Placed) (e : Entry) → In e (entries_of log) → (x : Placed) × In x log × x.entry ≡ e
+entry_of [] e m = elim m [ ]
 entry_of (x ∷ xs) e (Memᴰ.head d) = (x, first, sym d)
 entry_of (x ∷ xs) e (Memᴰ.tail m) = let h = entry_of xs e m in (h.0, Memᴰ.tail h.1, h.2)
 
@@ -141,7 +142,7 @@ unfoldable pub those : (Placed → Bool) → List Placed → List Placed
 those p [] = []
 those p (x ∷ xs) = pick (p x) (x ∷ those p xs) (those p xs)
 
-pub in-those : (p : Placed → Bool) {log : List Placed} {x : Placed} → In x log → p x ≡ true → In x (those p log)
+pub in-those : (p : Placed → Bool) {x : Placed} {log : List Placed} → In x log → p x ≡ true → In x (those p log)
 unfolding those pick
 in-those p (Memᴰ.head {x = y} {xs = ys} e) t =
     rw (pick_true (p y) (y ∷ those p ys) (those p ys) (ap p (sym e) ∙ t)) (Memᴰ.head e)

@@ -155,10 +155,10 @@ lent-clear n s m area_length l = (
   (ap not l.cells-good, tt),
 )
 
-if_none : (o : Option Refusal) (a r : Record) → if_none o a ≡ some r → (o ≡ none) × (a ≡ r)
+if_none_lem : (o : Option Refusal) (a r : Record) → if_none o a ≡ some r → (o ≡ none) × (a ≡ r)
 unfolding if_none
-if_none none a r e = (refl, cc)
-if_none (some c) a r e = let z : ◌≡◌ {A = ℕ} 0 1 = cc in absurd (omega arith)
+if_none_lem none a r e = (refl, cc)
+if_none_lem (some c) a r e = let z : ◌≡◌ {A = ℕ} 0 1 = cc in absurd (omega arith)
 
 if-own : (t : Bool) (o : Option Record) (r : Record) → pick t o none ≡ some r → (t ≡ true) × (o ≡ some r)
 unfolding pick
@@ -188,7 +188,7 @@ module _ (L : Layout) (n s m : ℕ) (area : List ℕ) where
   unfolding head_else
   recovered-facts r e =
       let own = recovered-own r e in
-      let accepted = if_none (first_cause (area_causes L n s m area)) (record_from L n s m area) r own.1 in
+      let accepted = if_none_lem (first_cause (area_causes L n s m area)) (record_from L n s m area) r own.1 in
       let clear = no-cause (area_causes L n s m area) accepted.0 in
       let found = clear-head L v n m own.0 clear.1.1 in
       record {
@@ -264,7 +264,7 @@ module _ (L : Layout) (n s m : ℕ) (area : List ℕ) where
       → recovery L n s m order area ≡ record { answer = RecoverAnswer.Recovered; rec = r }
   unfolding recovery_for
   recovered-recovery order r good e =
-      let accepted = if_none (first_cause (area_causes L n s m area)) (record_from L n s m area) r (recovered-own r e).1 in
+      let accepted = if_none_lem (first_cause (area_causes L n s m area)) (record_from L n s m area) r (recovered-own r e).1 in
       order-free order good ∙ ap (λ (o : Option Refusal). recovery_for o (record_from L n s m area)) accepted.0 ∙
       ap (λ (x : Record). record { answer = RecoverAnswer.Recovered; rec = x }) accepted.1
 

@@ -121,6 +121,7 @@ module _ {L : Layout} {s : List ℕ} where
   scans-high (more x p r) = scans-high r
 
   pub scans-found : {at e : ℕ} {is : List Item} {i : Item} → Scans L s at is e → Memᴰ i is → entry_at L s i.offset ≡ entry i.entry
+  scans-found {i = i} (done {at = at} _) m = elim m [ ]
   scans-found (more x p r) (Memᴰ.head q) = subst (λ (j : Item). entry_at L s j.offset ≡ entry j.entry) (sym q) p
   scans-found (more x p r) (Memᴰ.tail m) = scans-found r m
 

@@ -164,7 +164,7 @@ module _ {S i lo : ℕ} where
   pub within-take : {plan : List (ℕ × ℕ)} (k : ℕ) → Within S i lo plan → Within S i lo (take k plan)
   within-take zero w = no_store
   within-take (suc k) no_store = no_store
-  within-take (suc k) (one_store j b h q w) = one_store j b h q (within-take k w)
+  within-take (suc k) (one_store j b {plan = plan} h q w) = one_store j b h q (within-take {plan = plan} k w)
 
   pub within-lower : {plan : List (ℕ × ℕ)} (m : ℕ) → m ≤ lo → Within S i lo plan → Within S i m plan
   within-lower m l no_store = no_store

@@ -30,7 +30,7 @@ count v log = total (counted v) (entries_of log)
 pub count-append : (v : ℕ) (a b : List Placed) → count v (a ++ b) ≡ count v a + count v b
 count-append v a b = rw (entries-append a b) (total-append (counted v) (entries_of a) (entries_of b))
 
-pub count-member : (v : ℕ) {log : List Placed} {x : Placed} → In x log → x.entry.version ≡ v → 1 ≤ count v log
+pub count-member : (v : ℕ) {x : Placed} {log : List Placed} → In x log → x.entry.version ≡ v → 1 ≤ count v log
 unfolding total
 count-member v {x = x} (Memᴰ.head {x = y} d) e =
     omega (arith, counted-one v y.entry (ap (λ (w : Placed). w.entry.version) (sym d) ∙ e))
@@ -133,7 +133,7 @@ shared-append a b p q d =
 
 -- ---- the highest version
 
-pub highest-above : {log : List Placed} {x : Placed} → In x log → x.entry.version ≤ highest log
+pub highest-above : {x : Placed} {log : List Placed} → In x log → x.entry.version ≤ highest log
 unfolding highest
 highest-above (Memᴰ.head {x = y} {xs = ys} d) =
     omega (arith, ap (λ (w : Placed). w.entry.version) d, le-max_left y.entry.version (highest ys))
