@@ -1,7 +1,7 @@
 /*
  * Kurdavel: a parameter store for a drive's firmware, in one log that may be cut anywhere.
  *
- * Link with libkurdavel.a, which `rt staticlib kurdavel` writes to target/staticlib/ (x86-64, the calling convention
+ * Link with libkurdavel.a, which `bash tools/archive` writes to target/staticlib/ (x86-64, the calling convention
  * of System V). The library keeps nothing from call to call, allocates nothing, and calls nothing but memcpy and
  * memset, which the firmware has. Its code uses SSE registers, with the instructions that every x86-64 has (SSE2), and
  * the red zone: the 128 bytes below the stack pointer. So an interrupt handler on the same stack leaves these bytes

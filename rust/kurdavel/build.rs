@@ -1,4 +1,4 @@
-//! Links the proved library, which `rt staticlib kurdavel` writes at the root of the repository.
+//! Links the proved library, which `bash tools/archive` writes at the root of the repository.
 
 use std::path::Path;
 
@@ -7,7 +7,7 @@ fn main() {
     let archive = folder.join("libkurdavel.a");
     println!("cargo:rerun-if-changed={}", archive.display());
     if !archive.is_file() {
-        println!("cargo:warning=run `rt staticlib kurdavel` at the root of the repository first");
+        println!("cargo:warning=run `bash tools/archive` at the root of the repository first");
     }
     println!("cargo:rustc-link-search=native={}", folder.display());
     println!("cargo:rustc-link-lib=static=kurdavel");

@@ -5,8 +5,7 @@ ghost use Rattle.kurdavel.specs.Crossing.{ConvertCrossed};
 use record::{ConvertAnswer, number};
 use store::convert;
 
-#[unsafe(no_mangle)]
-pub extern "C" fn kurdavel_convert(slots: u32, size: u32, source: &[u8], target: &mut [u8]) -> u32
+pub fn kurdavel_convert(slots: u32, size: u32, source: &[u8], target: &mut [u8]) -> u32
     ensures { ConvertCrossed slots size source.now target.old target.new result }
 {
     match convert(slots, size, source, target) {

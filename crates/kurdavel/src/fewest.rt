@@ -6,8 +6,7 @@ use words::{CELLS, COUNTS, SIZE, WORDS, fits};
 
 // The slot of the log with the fewest present bytes, by the record alone; 0 where it is refused. No lengths are lent, so that those
 // stand in for them which the record itself says.
-#[unsafe(no_mangle)]
-pub extern "C" fn kurdavel_fewest(words: &[u32], slot: &mut u32) -> u32
+pub fn kurdavel_fewest(words: &[u32], slot: &mut u32) -> u32
     ensures { FewestCrossed words.now slot.new result }
 {
     *slot = 0;

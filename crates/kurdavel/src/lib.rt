@@ -1,4 +1,5 @@
-// The store for a firmware in C or Rust (include/kurdavel.h): its calls and the value reads, over slices and numbers.
+// The store for a firmware in C or Rust (include/kurdavel.h): its calls and the value reads, over slices and numbers, which the crate
+// `kurdavel_c` exports under the same names.
 // The reads, the start of a write, the step, the next store told, the switch and the question for the emptiest slot go by the record's
 // words as they are; the others decode the record from them, make the call, and encode what it hands back. Nothing is required of the
 // caller's values: words that are no record are refused with 4. The answer is 0 or the refusal's number.
@@ -36,8 +37,7 @@ pub mod scan;
 pub mod step;
 pub mod switch;
 
-#[unsafe(no_mangle)]
-pub extern "C" fn kurdavel_format(slots: u32, size: u32, edition: u32, area: &mut [u8]) -> u32
+pub fn kurdavel_format(slots: u32, size: u32, edition: u32, area: &mut [u8]) -> u32
     ensures { FormatCrossed edition slots size area.old area.new result }
 {
     match format(slots, size, edition, area) {
@@ -46,8 +46,7 @@ pub extern "C" fn kurdavel_format(slots: u32, size: u32, edition: u32, area: &mu
     }
 }
 
-#[unsafe(no_mangle)]
-pub extern "C" fn kurdavel_recover(
+pub fn kurdavel_recover(
     slots: u32,
     size: u32,
     order: &[u8],
@@ -75,8 +74,7 @@ pub extern "C" fn kurdavel_recover(
 
 // Both reads are made of the parts of `find`, on the words as they are: the record is tested and not copied, and the compiler puts the
 // search in line in both.
-#[unsafe(no_mangle)]
-pub extern "C" fn kurdavel_read(
+pub fn kurdavel_read(
     words: &[u32],
     area: &[u8],
     index: &[u32],
@@ -113,8 +111,7 @@ pub extern "C" fn kurdavel_read(
     }
 }
 
-#[unsafe(no_mangle)]
-pub extern "C" fn kurdavel_read_value(
+pub fn kurdavel_read_value(
     words: &[u32],
     area: &[u8],
     index: &[u32],
@@ -225,8 +222,7 @@ fn start_write(
     }
 }
 
-#[unsafe(no_mangle)]
-pub extern "C" fn kurdavel_write(
+pub fn kurdavel_write(
     words: &mut [u32],
     area: &[u8],
     index: &[u32],
@@ -258,8 +254,7 @@ pub extern "C" fn kurdavel_write(
 }
 
 // A write over the version that the caller expects the key to have, 0 where it expects none.
-#[unsafe(no_mangle)]
-pub extern "C" fn kurdavel_write_expecting(
+pub fn kurdavel_write_expecting(
     words: &mut [u32],
     area: &[u8],
     index: &[u32],
@@ -291,8 +286,7 @@ pub extern "C" fn kurdavel_write_expecting(
     )
 }
 
-#[unsafe(no_mangle)]
-pub extern "C" fn kurdavel_delete(
+pub fn kurdavel_delete(
     words: &mut [u32],
     area: &[u8],
     index: &[u32],
@@ -313,8 +307,7 @@ pub extern "C" fn kurdavel_delete(
     hand_back(words, decoded.ok, start, stores)
 }
 
-#[unsafe(no_mangle)]
-pub extern "C" fn kurdavel_clean(
+pub fn kurdavel_clean(
     words: &mut [u32],
     area: &[u8],
     index: &[u32],
@@ -332,8 +325,7 @@ pub extern "C" fn kurdavel_clean(
 }
 
 // Which two slots to join; both are 0 where it is refused.
-#[unsafe(no_mangle)]
-pub extern "C" fn kurdavel_join(
+pub fn kurdavel_join(
     words: &[u32],
     area: &[u8],
     index: &[u32],
@@ -362,15 +354,13 @@ pub extern "C" fn kurdavel_join(
 }
 
 // The two conversions of a position (02, R-10) take no store: a value goes in, eight bytes and a number come out.
-#[unsafe(no_mangle)]
-pub extern "C" fn kurdavel_from_float(value: &[u8], converted: &mut [u8; 8]) -> u32
+pub fn kurdavel_from_float(value: &[u8], converted: &mut [u8; 8]) -> u32
     ensures { ConversionCrossed (from_float value.now) converted.new result }
 {
     hand_over(from_float(value), converted)
 }
 
-#[unsafe(no_mangle)]
-pub extern "C" fn kurdavel_to_float(value: &[u8], converted: &mut [u8; 8]) -> u32
+pub fn kurdavel_to_float(value: &[u8], converted: &mut [u8; 8]) -> u32
     ensures { ConversionCrossed (to_float value.now) converted.new result }
 {
     hand_over(to_float(value), converted)

@@ -8,8 +8,7 @@ use segment::Key;
 use segment::layout::{edition_of_kind, head_size};
 
 // Version and kind, 0 where it is refused.
-#[unsafe(no_mangle)]
-pub extern "C" fn kurdavel_scan_read(
+pub fn kurdavel_scan_read(
     slots: u32,
     size: u32,
     area: &[u8],
@@ -47,8 +46,7 @@ pub extern "C" fn kurdavel_scan_read(
 }
 
 // The value as a part of the area, of no bytes at its start where it is refused.
-#[unsafe(no_mangle)]
-pub extern "C" fn kurdavel_scan_read_value(
+pub fn kurdavel_scan_read_value(
     slots: u32,
     size: u32,
     area: &[u8],

@@ -58,8 +58,7 @@ fn finish(
 }
 
 // A step that is not the last changes one word of the record.
-#[unsafe(no_mangle)]
-pub extern "C" fn kurdavel_step(
+pub fn kurdavel_step(
     words: &mut [u32],
     area: &mut [u8],
     index: &mut [u32],
@@ -95,8 +94,7 @@ pub extern "C" fn kurdavel_step(
 }
 
 // Place and byte of the store that the next step will make; both are 0 where it is refused.
-#[unsafe(no_mangle)]
-pub extern "C" fn kurdavel_next_store(
+pub fn kurdavel_next_store(
     words: &[u32],
     area: &[u8],
     work: &[u8],

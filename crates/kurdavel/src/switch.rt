@@ -6,8 +6,7 @@ use words::{CELLS, EDITION, SIZE, SWITCH, TAG, WORDS, fits};
 
 // No lengths are lent, so that those stand in for them which the record itself says. A head of the second edition is followed by such
 // heads alone, and the switch of its store stays as it is.
-#[unsafe(no_mangle)]
-pub extern "C" fn kurdavel_switch(words: &mut [u32]) -> u32
+pub fn kurdavel_switch(words: &mut [u32]) -> u32
     ensures { SwitchCrossed words.old words.new result }
 {
     if words.len() < WORDS {

@@ -1,4 +1,4 @@
-//! Versions chosen against the search for equal versions at recovery, as crates/log has it in filter.rt, table.rt and marks.rt.
+//! Versions chosen against the search for equal versions at recovery, as crates/drive_log has it in filter.rt, table.rt and marks.rt.
 //!
 //! The search has a filter with a bit for each version modulo 2^14. A version whose bit is set already is a suspect and
 //! goes to a table. When the table is full, one walk over the log looks at all suspects, and the table is emptied. In that
