@@ -1,11 +1,18 @@
+use Prim.Native.Nat.{◌-◌}
 use mathlib.Core.Path.{refl, ◌∙◌}
 use native.Mathlib.Omega.{arith}
 use lib.ListN.{length-set}
-use Rattle.histories.specs.Numbered.{codes-turn, line-put}
+use Rattle.histories.specs.Numbered.{unit-positive, codes-turn, line-put}
 use Rattle.histories.proofs.put_word.Goals as goal
 
 pub loop-left-init : goal.loop-left-init
 loop-left-init c = (omega arith, refl, refl, refl)
+
+pub nonzero_div-rest : goal.nonzero_div-rest
+nonzero_div-rest c = unit-positive (c.loop-left.left - 1) c.words-unit.result c.words-unit.ensures
+
+pub nonzero_rem-rest : goal.nonzero_rem-rest
+nonzero_rem-rest c = unit-positive (c.loop-left.left - 1) c.words-unit.result c.words-unit.ensures
 
 pub loop-left-preserved : goal.loop-left-preserved
 loop-left-preserved c =

@@ -34,7 +34,7 @@ looked : (c : After-look_at)
     looked_up (decoded a.words.now).rec.edition (decoded a.words.now).rec a.area.now a.index.now (record { first = a.first; last = a.last })
     (record { table = a.table; key = a.key })
 looked c =
-    looked-found _ _ _ _ _ (fit) (held c.search-found.ensures c.look_at.ensures
+    looked-found _ _ _ _ _ (fit) (held) c.search-found.ensures c.look_at.ensures
 
 pub returns-then-not-fits : goal.returns-then-not-fits
 unfolding told_by
@@ -48,7 +48,7 @@ returns-then-not-holds_table c =
 
 pub look_at-requires : goal.look_at-requires
 look_at-requires c =
-    λ i f. reached _ _ _ _ _ _ (fit (goal.at.look_at-requires c).Else-not-fits (held (goal.at.look_at-requires c).Else-not-holds_table i (sym c.search-found.ensures ∙ f)
+    λ i f. reached _ _ _ _ _ _ (fit (goal.at.look_at-requires c).Else-not-fits) (held (goal.at.look_at-requires c).Else-not-holds_table) i (sym c.search-found.ensures ∙ f)
 
 pub returns-in-Refused : goal.returns-in-Refused
 returns-in-Refused c =

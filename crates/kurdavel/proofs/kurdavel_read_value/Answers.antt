@@ -37,7 +37,7 @@ looked : (c : After-look_at)
     looked_up (decoded a.words.now).rec.edition (decoded a.words.now).rec a.area.now a.index.now (record { first = a.first; last = a.last })
     (record { table = a.table; key = a.key })
 looked c =
-    looked-found _ _ _ _ _ (fit) (held c.search-found.ensures c.look_at.ensures
+    looked-found _ _ _ _ _ (fit) (held) c.search-found.ensures c.look_at.ensures
 
 -- the entry of an object that was found lies in the area, whose length is a record's
 inside : (c : In-Object)
@@ -50,7 +50,7 @@ inside c =
     let looked : let a = c.args in
     c.look_at.result ≡
     looked_up (decoded a.words.now).rec.edition (decoded a.words.now).rec a.area.now a.index.now (record { first = a.first; last = a.last })
-    (record { table = a.table; key = a.key }) = looked-found _ _ _ _ _ (fit) (held c.search-found.ensures c.look_at.ensures in
+    (record { table = a.table; key = a.key }) = looked-found _ _ _ _ _ (fit) (held) c.search-found.ensures c.look_at.ensures in
     object-inside _ _ _ _ _ _ _ _ _ _ (sym (looked) ∙ c.in-Object.is)
 
 small : (c : In-Object) → length c.args.area.now ≤ 65536
@@ -62,7 +62,7 @@ small c =
     let looked : let a = c.args in
     c.look_at.result ≡
     looked_up (decoded a.words.now).rec.edition (decoded a.words.now).rec a.area.now a.index.now (record { first = a.first; last = a.last })
-    (record { table = a.table; key = a.key }) = looked-found _ _ _ _ _ (fit) (held c.search-found.ensures c.look_at.ensures in
+    (record { table = a.table; key = a.key }) = looked-found _ _ _ _ _ (fit) (held) c.search-found.ensures c.look_at.ensures in
     found-small _ _ _ _ _ (sym (looked) ∙ c.in-Object.is)
 
 -- the bytes before a value, by the edition that the kind tells
@@ -83,7 +83,7 @@ returns-then-not-holds_table c =
 
 pub look_at-requires : goal.look_at-requires
 look_at-requires c =
-    λ i f. reached _ _ _ _ _ _ (fit (goal.at.look_at-requires c).Else-not-fits (held (goal.at.look_at-requires c).Else-not-holds_table i (sym c.search-found.ensures ∙ f)
+    λ i f. reached _ _ _ _ _ _ (fit (goal.at.look_at-requires c).Else-not-fits) (held (goal.at.look_at-requires c).Else-not-holds_table) i (sym c.search-found.ensures ∙ f)
 
 pub overflow_add-place : goal.overflow_add-place
 overflow_add-place c = let h = inside (goal.at.overflow_add-place c).In-Object in let l = small (goal.at.overflow_add-place c).In-Object in omega (arith, head-is c)

@@ -1,4 +1,6 @@
 -- `kurdavel::start_write` meets its contract.
+use mathlib.Core.Path.{ap}
+use mathlib.Core.Bool.{not}
 use Prim.Native.Nat.{◌<◌}
 use mathlib.Core.Path.{◌≡◌, sym, ◌∙◌}
 use native.Mathlib.Omega.{arith}
@@ -15,7 +17,7 @@ pub returns-then-not-fits : goal.returns-then-not-fits
 returns-then-not-fits c =
     let half : word c.args.words.now 7 < 4294967296 = omega (arith, c.type_inv.words 7) in
     let a = c.args in
-    write-bad (record { tables = a.tables; expected = a.expected }) a.words.now a.area.now a.index.now a.work.now a.key a.value.now (half) _ c.fits.ensures c.if-not-fits.true
+    write-bad (record { tables = a.tables; expected = a.expected }) a.words.now a.area.now a.index.now a.work.now a.key a.value.now (half) _ c.fits.ensures (ap not c.if-not-fits.true)
 
 pub front_in-front-requires : goal.front_in-front-requires
 front_in-front-requires c = fits-words _ _ _ (sym c.fits.ensures ∙ c.if-not-fits.false)
@@ -24,7 +26,7 @@ pub check_fitting-requires : goal.check_fitting-requires
 check_fitting-requires c =
     let half : word c.args.words.now 7 < 4294967296 = omega (arith, c.type_inv.words 7) in
     let a = c.args in
-    front-fit (record { tables = a.tables; expected = a.expected }) a.words.now a.area.now a.index.now a.work.now a.key a.value.now (half) 0 c.fits.ensures c.if-not-fits.false c.front_in-front.ensures
+    front-fit (record { tables = a.tables; expected = a.expected }) a.words.now a.area.now a.index.now a.work.now a.key a.value.now (half) 0 c.fits.ensures (ap not c.if-not-fits.false) c.front_in-front.ensures
 
 -- the tests are passed
 passed : (e : In-Passed)
@@ -34,13 +36,12 @@ passed e = sym e.in-Passed.is ∙ e.check_fitting.ensures
 
 pub lay_entry-laying-requires : goal.lay_entry-laying-requires
 lay_entry-laying-requires c =
-    let a = c.args in (
-      write-ready _ (record { tables = a.tables; expected = a.expected }) c.front_in-front.result a.area.now a.index.now a.work.now a.key a.value.now (passed (goal.at.lay_entry-laying-requires c).In-Passed (edition-roomy _),
-      (
-        write-number _ (record { tables = a.tables; expected = a.expected }) c.front_in-front.result a.area.now a.index.now a.work.now a.key a.value.now (passed (goal.at.lay_entry-laying-requires c).In-Passed,
-        write_known _ (record { tables = a.tables; expected = a.expected }) c.front_in-front.result a.area.now a.index.now a.work.now a.key a.value.now (passed (goal.at.lay_entry-laying-requires c).In-Passed _ c.object_kind.ensures,
-      ),
-    )
+    let a = c.args in 
+    record {
+      entry_ready = write-ready _ (record { tables = a.tables; expected = a.expected }) c.front_in-front.result a.area.now a.index.now a.work.now a.key a.value.now (passed (goal.at.lay_entry-laying-requires c).In-Passed) (edition-roomy _);
+      number_left = write-number _ (record { tables = a.tables; expected = a.expected }) c.front_in-front.result a.area.now a.index.now a.work.now a.key a.value.now (passed (goal.at.lay_entry-laying-requires c).In-Passed);
+      kind_value = write_known _ (record { tables = a.tables; expected = a.expected }) c.front_in-front.result a.area.now a.index.now a.work.now a.key a.value.now (passed (goal.at.lay_entry-laying-requires c).In-Passed) _ c.object_kind.ensures;
+    }
 
 pub encode_pending-requires : goal.encode_pending-requires
 encode_pending-requires c =
@@ -50,10 +51,10 @@ pub returns-in-Refused : goal.returns-in-Refused
 returns-in-Refused c =
     let half : word c.args.words.now 7 < 4294967296 = omega (arith, c.type_inv.words 7) in
     let a = c.args in
-    write-turned (record { tables = a.tables; expected = a.expected }) a.words.now a.area.now a.index.now a.work.now a.key a.value.now (half) _ c.fits.ensures c.if-not-fits.false c.front_in-front.ensures _ (sym c.in-Refused.is ∙ c.check_fitting.ensures) c.number.ensures
+    write-turned (record { tables = a.tables; expected = a.expected }) a.words.now a.area.now a.index.now a.work.now a.key a.value.now (half) _ c.fits.ensures (ap not c.if-not-fits.false) c.front_in-front.ensures _ (sym c.in-Refused.is ∙ c.check_fitting.ensures) c.number.ensures
 
 pub returns-in-Passed : goal.returns-in-Passed
 returns-in-Passed c =
     let half : word c.args.words.now 7 < 4294967296 = omega (arith, c.type_inv.words 7) in
     let a = c.args in
-    write-begun (record { tables = a.tables; expected = a.expected }) a.words.now a.area.now a.index.now a.work.now a.key a.value.now (half) _ c.fits.ensures c.if-not-fits.false c.front_in-front.ensures (passed (goal.at.returns-in-Passed c).In-Passed _ c.object_kind.ensures c.lay_entry-laying.ensures c.encode_pending.ensures
+    write-begun (record { tables = a.tables; expected = a.expected }) a.words.now a.area.now a.index.now a.work.now a.key a.value.now (half) _ c.fits.ensures (ap not c.if-not-fits.false) c.front_in-front.ensures (passed (goal.at.returns-in-Passed c).In-Passed) _ c.object_kind.ensures c.lay_entry-laying.ensures c.encode_pending.ensures

@@ -1,4 +1,6 @@
 -- `stepping::step` meets its contract.
+use mathlib.Core.Path.{ap}
+use mathlib.Core.Bool.{not}
 use borrow.Author.Rules.{rules}
 use mathlib.Core.Bool.{true}
 use mathlib.Core.Path.{◌≡◌, sym, ◌∙◌}
@@ -41,7 +43,7 @@ pub returns-then-not-fits_lent : goal.returns-then-not-fits_lent
 returns-then-not-fits_lent c =
     let a = c.args in
     found-refused _ a.rec a.area.now a.index.now a.work.now BadRecord
-    (sym (found-bad _ a.rec a.area.now (length a.index.now) a.work.now c.fits_lent.ensures c.if-not-fits_lent.true))
+    (sym (found-bad _ a.rec a.area.now (length a.index.now) a.work.now c.fits_lent.ensures (ap not c.if-not-fits_lent.true)))
     c.refused.ensures
 
 pub store_of-requires : goal.store_of-requires
@@ -68,4 +70,4 @@ returns-in-Refused c =
 pub returns-in-At : goal.returns-in-At
 returns-in-At c =
     let a = c.args in
-    found-stored _ a.rec a.area.now a.index.now a.work.now _ _ (at (goal.at.returns-in-At c).In-At c.advance.ensures (search rules)
+    found-stored _ a.rec a.area.now a.index.now a.work.now _ _ (at (goal.at.returns-in-At c).In-At) c.advance.ensures (search rules)

@@ -33,4 +33,4 @@ returns-in-Idle c =
 
 pub returns : goal.returns
 unfolding switching
-returns c = busy-promise _ _ _ (in-range (goal.at.returns c).Else-not-in_range) (λ e. not-idle (ap (tag_of the_type) e) c.in_default.keys2) refl
+returns c = busy-promise _ _ _ (in-range (goal.at.returns c).Else-not-in_range) (λ e. not-idle (ap (tag_of the_type) e) c.in_default.in_default-own.keys2) refl

@@ -1,4 +1,5 @@
 -- `words::fits` meets its contract.
+use mathlib.Core.Bool.{not}
 use Prim.Native.Nat.{ℕ, ◌-◌}
 use mathlib.Core.Path.{◌≡◌, sym, ◌∙◌, ap}
 use mathlib.Core.Bool.{true}
@@ -36,7 +37,7 @@ front-is k =
 
 pub returns-then-not-front_fits : goal.returns-then-not-front_fits
 returns-then-not-front_fits c =
-    front-unfit _ _ _ _ (are-record (goal.at.returns-then-not-front_fits c).Else-not-is_record) c.front_in-front.ensures (front-is (goal.at.returns-then-not-front_fits c).After-front_fits) c.if-not-front_fits.true
+    front-unfit _ _ _ _ (are-record (goal.at.returns-then-not-front_fits c).Else-not-is_record) c.front_in-front.ensures (front-is (goal.at.returns-then-not-front_fits c).After-front_fits) (ap not c.if-not-front_fits.true)
     ∙ own-edition _ _ _ (are-record (goal.at.returns-then-not-front_fits c).Else-not-is_record) c.front_in-front.ensures
 
 -- what is known once the front is tested
@@ -52,8 +53,11 @@ lengths_own-requires c = omega (arith, within c)
 
 pub returns-then-not-lengths_own : goal.returns-then-not-lengths_own
 returns-then-not-lengths_own c =
-    lengths-unfit _ _ _ _ (are-record (goal.at.returns-then-not-lengths_own c).Else-not-is_record) c.front_in-front.ensures (front-is (goal.at.returns-then-not-lengths_own c).After-front_fits c.if-not-front_fits.false c.lengths_own.ensures c.if-not-lengths_own.true
+    lengths-unfit _ _ _ _ (are-record (goal.at.returns-then-not-lengths_own c).Else-not-is_record) c.front_in-front.ensures (front-is (goal.at.returns-then-not-lengths_own c).After-front_fits) (ap not c.if-not-front_fits.false) c.lengths_own.ensures (ap not c.if-not-lengths_own.true)
     ∙ own-edition _ _ _ (are-record (goal.at.returns-then-not-lengths_own c).Else-not-is_record) c.front_in-front.ensures
+
+pub slice_bounds-counts_good-end : goal.slice_bounds-counts_good-end
+slice_bounds-counts_good-end c = omega (arith, record-long _ (are-record (goal.at.slice_bounds-counts_good-end c).Else-not-is_record))
 
 -- the shortest digest is 13 bytes long
 pub overflow_cast-digest_size : goal.overflow_cast-digest_size
@@ -68,6 +72,6 @@ pub returns : goal.returns
 returns c =
     let front = c.front_in-front.result in
     let w = c.args.words.now in
-    counts-decide _ _ _ _ (are-record (goal.at.returns c).Else-not-is_record) c.front_in-front.ensures (front-is (goal.at.returns c).After-front_fits c.if-not-front_fits.false c.lengths_own.ensures c.if-not-lengths_own.false
+    counts-decide _ _ _ _ (are-record (goal.at.returns c).Else-not-is_record) c.front_in-front.ensures (front-is (goal.at.returns c).After-front_fits) (ap not c.if-not-front_fits.false) c.lengths_own.ensures (ap not c.if-not-lengths_own.false)
     (c.counts_good.ensures ∙ ap (λ (n : ℕ). counts_good (front.size - n) (counts_in w)) c.digest_size.ensures)
     ∙ own-edition _ _ _ (are-record (goal.at.returns c).Else-not-is_record) c.front_in-front.ensures

@@ -36,7 +36,7 @@ begin-requires c =
       room = room a.into c.requires a.index.now _ c.measure-count.ensures.0 passed _
           (ap length c.measure-count.ensures.2
           ∙ length-choices (kept_test a.area.now a.index.now a.marks.now) _ _ 256 _ _ (length-replicate {A = ℕ} 256 0))
-          (same (goal.at.begin-requires c).After-measure-count,;
+          (same (goal.at.begin-requires c).After-measure-count);
     }
 
 pub returns-in-Refused : goal.returns-in-Refused
@@ -47,4 +47,4 @@ pub returns-in-Passed : goal.returns-in-Passed
 returns-in-Passed c =
     let a = c.args in
     marked-begun _ _ _ _ _ _ c.measure-count.ensures.0 (sym c.in-Passed.is ∙ c.check_kept.ensures)
-    (c.begin.ensures ∙ ap (λ (l : List ℕ). begun_with a.into a.rec a.victims a.work.now l none) (same (goal.at.returns-in-Passed c).After-measure-count)
+    (c.begin.ensures ∙ ap (λ (l : List ℕ). begun_with a.into a.rec a.victims a.work.now l none) (same (goal.at.returns-in-Passed c).After-measure-count))

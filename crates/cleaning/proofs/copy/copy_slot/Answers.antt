@@ -58,7 +58,10 @@ copy_chosen-to-requires c =
 
 pub behind-at-requires : goal.behind-at-requires
 behind-at-requires c =
-    (omega (arith, met (goal.at.behind-at-requires c).In-Entry, long (goal.at.behind-at-requires c).After-cut-s, c.requires.chosen_fits.slots.size-high), tombstone-long (goal.at.behind-at-requires c).In-Entry
+    record {
+      length_bound = omega (arith, met (goal.at.behind-at-requires c).In-Entry, long (goal.at.behind-at-requires c).After-cut-s, c.requires.chosen_fits.slots.size-high);
+      length_value = tombstone-long (goal.at.behind-at-requires c).In-Entry;
+    }
 
 pub loop-header-smaller : goal.loop-header-smaller
 loop-header-smaller c = omega (arith, c.behind-at.ensures, met (goal.at.loop-header-smaller c).In-Entry)

@@ -58,7 +58,7 @@ copy_slot-requires c =
     record {
       chosen_fits = c.requires.chosen_fits;
       slot_lt_slots = c.requires.slot_lt_slots;
-      slot_in_bounds = omega (arith, c.requires.slot_in_bounds, ap length (own (goal.at.copy_slot-requires c).After-edition_of-edition);
+      slot_in_bounds = omega (arith, c.requires.slot_in_bounds, ap length (own (goal.at.copy_slot-requires c).After-edition_of-edition));
     }
 
 pub returns : goal.returns

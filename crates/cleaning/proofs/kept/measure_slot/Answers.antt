@@ -54,7 +54,7 @@ short c =
       arith,
       c.choose_kept-total.ensures.0,
       entry-short a.into a.area.now a.cells.now a.marks.now a.edition c.in-Entry.header
-          (a.slot * a.split.size + c.loop-header.at) (low (lies,
+          (a.slot * a.split.size + c.loop-header.at) (low) (lies),
     )
 
 pub cut-s-requires : goal.cut-s-requires
@@ -73,11 +73,13 @@ overflow_add-slot c = omega (arith, place (goal.at.overflow_add-slot c).In-Entry
 
 pub choose_kept-total-requires : goal.choose_kept-total-requires
 choose_kept-total-requires c =
-    let l = c.loop-header in
-    (
-      (c.requires.split_fits.0.marks-long, l.invariant.4 ∙ c.requires.split_fits.1),
-      ((lies (goal.at.choose_kept-total-requires c).In-Entry, area-short c.requires.split_fits.0.slots), (place (goal.at.choose_kept-total-requires c).In-Entry, low (goal.at.choose_kept-total-requires c).In-Entry),
-    )
+    let l = c.loop-header in 
+    record {
+      marks_len = (c.requires.split_fits.0.marks-long, l.invariant.4 ∙ c.requires.split_fits.1);
+      length_in_bounds = (lies (goal.at.choose_kept-total-requires c).In-Entry, area-short c.requires.split_fits.0.slots);
+      place_bound = place (goal.at.choose_kept-total-requires c).In-Entry;
+      edition_bound = low (goal.at.choose_kept-total-requires c).In-Entry;
+    }
 
 pub overflow_add-total : goal.overflow_add-total
 overflow_add-total c =
@@ -85,7 +87,10 @@ overflow_add-total c =
 
 pub behind-at-requires : goal.behind-at-requires
 behind-at-requires c =
-    (omega (arith, met (goal.at.behind-at-requires c).In-Entry, long (goal.at.behind-at-requires c).After-cut-s, c.requires.split_fits.0.slots.size-high), tombstone-long (goal.at.behind-at-requires c).In-Entry
+    record {
+      length_bound = omega (arith, met (goal.at.behind-at-requires c).In-Entry, long (goal.at.behind-at-requires c).After-cut-s, c.requires.split_fits.0.slots.size-high);
+      length_value = tombstone-long (goal.at.behind-at-requires c).In-Entry;
+    }
 
 pub loop-header-smaller : goal.loop-header-smaller
 loop-header-smaller c = omega (arith, c.behind-at.ensures, met (goal.at.loop-header-smaller c).In-Entry)
@@ -94,10 +99,10 @@ pub loop-header-preserved : goal.loop-header-preserved
 loop-header-preserved c =
     let l = c.loop-header in
     let b = c.behind-at.ensures in (
-      measured-entry _ (kept_entry _ _ _ _) _ _ _ _ _ _ l.invariant.0 (met (goal.at.loop-header-preserved c).In-Entry _ c.choose_kept-total.ensures.0 _ b,
+      measured-entry _ (kept_entry _ _ _ _) _ _ _ _ _ _ l.invariant.0 (met (goal.at.loop-header-preserved c).In-Entry) _ c.choose_kept-total.ensures.0 _ b,
       omega (arith, b, short (goal.at.loop-header-preserved c).After-choose_kept-total, l.invariant.1),
-      omega (arith, b, met (goal.at.loop-header-preserved c).In-Entry,
-      choice-entry (kept_test _ _ _) _ _ _ _ _ _ _ l.invariant.3 (met (goal.at.loop-header-preserved c).In-Entry _ c.choose_kept-total.ensures.1 _ b,
+      omega (arith, b, met (goal.at.loop-header-preserved c).In-Entry),
+      choice-entry (kept_test _ _ _) _ _ _ _ _ _ _ l.invariant.3 (met (goal.at.loop-header-preserved c).In-Entry) _ c.choose_kept-total.ensures.1 _ b,
       ap length c.choose_kept-total.ensures.1 ∙ length-choice (kept_test _ _ _) _ _ _ _ l.invariant.4,
     )
 

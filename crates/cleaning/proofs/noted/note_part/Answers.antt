@@ -36,11 +36,11 @@ note_second-requires c = (short (goal.at.note_second-requires c).After-cut-s, c.
 pub returns-in-First : goal.returns-in-First
 returns-in-First c =
     let a = c.args in
-    walk-named note_entry _ _ _ _ _ _ (sym c.in-First.is ∙ c.edition_of.ensures ∙ ap layout_in c.cut-s.ensures) (named-there (goal.at.returns-in-First c).After-cut-s
+    walk-named note_entry _ _ _ _ _ _ (sym c.in-First.is ∙ c.edition_of.ensures ∙ ap layout_in c.cut-s.ensures) (named-there (goal.at.returns-in-First c).After-cut-s)
     (c.note_first.ensures ∙ walk-whole _ note_entry a.area.now a.split.size a.filter.now a.slot _ c.cut-s.ensures)
 
 pub returns-in-Second : goal.returns-in-Second
 returns-in-Second c =
     let a = c.args in
-    walk-named note_entry _ _ _ _ _ _ (sym c.in-Second.is ∙ c.edition_of.ensures ∙ ap layout_in c.cut-s.ensures) (named-there (goal.at.returns-in-Second c).After-cut-s
+    walk-named note_entry _ _ _ _ _ _ (sym c.in-Second.is ∙ c.edition_of.ensures ∙ ap layout_in c.cut-s.ensures) (named-there (goal.at.returns-in-Second c).After-cut-s)
     (c.note_second.ensures ∙ walk-whole _ note_entry a.area.now a.split.size a.filter.now a.slot _ c.cut-s.ensures)

@@ -23,7 +23,7 @@ pub behind-at-requires : goal.behind-at-requires
 behind-at-requires c =
     record {
       length_bound = omega (arith, met (goal.at.behind-at-requires c).In-Entry, c.requires.0);
-      length_value = tombstone-length _ _ _ (met (goal.at.behind-at-requires c).In-Entry;
+      length_value = tombstone-length _ _ _ (met (goal.at.behind-at-requires c).In-Entry);
     }
 
 pub loop-header-smaller : goal.loop-header-smaller

@@ -31,7 +31,7 @@ the-run : (k : After-run_behind-at)
     k.args in
     Run a.edition a.area.now a.chosen.now a.split.size a.slot k.cut-s.result.now k.loop-header.at k.run_behind-at.result
 the-run k =
-    run-first _ _ _ _ _ _ _ (met _ k.behind-at.ensures _ (run-as (sym k.cut-s.ensures) k.run_behind-at.ensures)
+    run-first _ _ _ _ _ _ _ (met) _ k.behind-at.ensures _ (run-as (sym k.cut-s.ensures) k.run_behind-at.ensures)
     (sym k.is_chosen.ensures ∙ k.if-is_chosen.true)
 
 -- it lies within the slot, which lies in the area
@@ -93,20 +93,23 @@ overflow_add-start-then-is_chosen-2 c = omega (arith, lies (goal.at.overflow_add
 pub slice_bounds-copy_into-count : goal.slice_bounds-copy_into-count
 slice_bounds-copy_into-count c = omega (arith, (the-run (goal.at.slice_bounds-copy_into-count c).After-run_behind-at).low)
 
+pub slice_bounds-copy_into-end : goal.slice_bounds-copy_into-end
+slice_bounds-copy_into-end c = lies (goal.at.slice_bounds-copy_into-end c).After-run_behind-at
+
 pub copy_into-requires : goal.copy_into-requires
 copy_into-requires c =
-    stretch-room _ _ _ _ _ (the-run (goal.at.copy_into-requires c).After-run_behind-at.low (lies (goal.at.copy_into-requires c).After-run_behind-at _ _ (room (goal.at.copy_into-requires c).After-run_behind-at
+    stretch-room _ _ _ _ _ (the-run (goal.at.copy_into-requires c).After-run_behind-at).low (lies (goal.at.copy_into-requires c).After-run_behind-at) _ _ (room (goal.at.copy_into-requires c).After-run_behind-at)
 
 pub overflow_sub-to : goal.overflow_sub-to
 overflow_sub-to c = (the-run (goal.at.overflow_sub-to c).After-run_behind-at).low
 
 pub loop-header-smaller-then-is_chosen : goal.loop-header-smaller-then-is_chosen
 loop-header-smaller-then-is_chosen c =
-    omega (arith, c.behind-at.ensures, c.run_behind-at.ensures.low, (the-run (goal.at.loop-header-smaller-then-is_chosen c).After-run_behind-at.high, met (goal.at.loop-header-smaller-then-is_chosen c).In-Entry)
+    omega (arith, c.behind-at.ensures, c.run_behind-at.ensures.low, (the-run (goal.at.loop-header-smaller-then-is_chosen c).After-run_behind-at).high, met (goal.at.loop-header-smaller-then-is_chosen c).In-Entry)
 
 pub loop-header-preserved-then-is_chosen : goal.loop-header-preserved-then-is_chosen
 loop-header-preserved-then-is_chosen c =
-    copying-next c.loop-header.invariant _ _ _ _ (the-run (goal.at.loop-header-preserved-then-is_chosen c).After-run_behind-at.parts (stretch-copied _ _ _ _ _ (the-run (goal.at.loop-header-preserved-then-is_chosen c).After-run_behind-at.low (lies (goal.at.loop-header-preserved-then-is_chosen c).After-run_behind-at _ _ _ c.copy_into.ensures)
+    copying-next c.loop-header.invariant _ _ _ _ (the-run (goal.at.loop-header-preserved-then-is_chosen c).After-run_behind-at).parts (stretch-copied _ _ _ _ _ (the-run (goal.at.loop-header-preserved-then-is_chosen c).After-run_behind-at).low (lies (goal.at.loop-header-preserved-then-is_chosen c).After-run_behind-at) _ _ _ c.copy_into.ensures)
 
 pub loop-header-smaller : goal.loop-header-smaller
 loop-header-smaller c = omega (arith, c.behind-at.ensures, met (goal.at.loop-header-smaller c).In-Entry)
@@ -114,7 +117,7 @@ loop-header-smaller c = omega (arith, c.behind-at.ensures, met (goal.at.loop-hea
 pub loop-header-preserved : goal.loop-header-preserved
 loop-header-preserved c =
     copying-next c.loop-header.invariant _ _ _ _
-    (run-passed _ _ _ _ _ _ _ (met (goal.at.loop-header-preserved c).In-Entry _ c.behind-at.ensures (sym c.is_chosen.ensures ∙ c.if-is_chosen.false))
+    (run-passed _ _ _ _ _ _ _ (met (goal.at.loop-header-preserved c).In-Entry) _ c.behind-at.ensures (sym c.is_chosen.ensures ∙ c.if-is_chosen.false))
     (copied_none _ _ _ refl)
 
 pub shape_of-work-in-End : goal.shape_of-work-in-End

@@ -44,7 +44,7 @@ pub behind-at-requires : goal.behind-at-requires
 behind-at-requires c =
     record {
       length_bound = omega (arith, met (goal.at.behind-at-requires c).In-Entry, long (goal.at.behind-at-requires c).After-cut-s, c.requires.chosen_fits.slots.size-high);
-      length_value = tombstone-length _ _ _ (met (goal.at.behind-at-requires c).In-Entry;
+      length_value = tombstone-length _ _ _ (met (goal.at.behind-at-requires c).In-Entry);
     }
 
 pub loop-header-smaller : goal.loop-header-smaller
@@ -52,7 +52,7 @@ loop-header-smaller c = omega (arith, c.behind-at.ensures, met (goal.at.loop-hea
 
 pub loop-header-preserved : goal.loop-header-preserved
 loop-header-preserved c =
-    run-entry _ _ _ _ _ _ _ (met (goal.at.loop-header-preserved c).In-Entry _ c.behind-at.ensures _ c.loop-header.invariant (sym c.is_chosen.ensures ∙ c.if-not-is_chosen.false)
+    run-entry _ _ _ _ _ _ _ (met (goal.at.loop-header-preserved c).In-Entry) _ c.behind-at.ensures _ c.loop-header.invariant (sym c.is_chosen.ensures ∙ c.if-not-is_chosen.false)
 
 pub returns-in-End : goal.returns-in-End
 returns-in-End c = run-as c.cut-s.ensures c.loop-header.invariant

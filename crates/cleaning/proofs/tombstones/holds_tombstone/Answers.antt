@@ -29,7 +29,7 @@ loop-header-smaller c = omega (arith, c.behind-at.ensures, met (goal.at.loop-hea
 
 pub loop-header-preserved : goal.loop-header-preserved
 loop-header-preserved c =
-    tombstone-next _ _ _ _ c.loop-header.invariant (met (goal.at.loop-header-preserved c).In-Entry c.if-header.false _ c.behind-at.ensures
+    tombstone-next _ _ _ _ c.loop-header.invariant (met (goal.at.loop-header-preserved c).In-Entry) c.if-header.false _ c.behind-at.ensures
 
 pub returns-in-End : goal.returns-in-End
 returns-in-End c = tombstone-none _ _ _ _ c.loop-header.invariant (stops_end _ _ _ _ c.next.ensures c.in-End.is)

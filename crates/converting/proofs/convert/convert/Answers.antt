@@ -37,17 +37,18 @@ found c = sym c.look_at.ensures ∙ c.in-Sound.is
 
 pub convert_log-requires : goal.convert_log-requires
 convert_log-requires c =
-    let a = c.args in (
-      (area-shape a.n a.s a.source.now (source_fits (goal.at.convert_log-requires c).Else-geometry_bad-2, sound-log a.n a.s a.source.now a.target.now (source_fits (goal.at.convert_log-requires c).Else-geometry_bad-2 (target_fits (goal.at.convert_log-requires c).Else-geometry_bad-2 _ _ _ _ (found (goal.at.convert_log-requires c).In-Sound)),
-      (sound-top a.n a.s a.source.now a.target.now (source_fits (goal.at.convert_log-requires c).Else-geometry_bad-2 (target_fits (goal.at.convert_log-requires c).Else-geometry_bad-2 _ _ _ _ (found (goal.at.convert_log-requires c).In-Sound), (area-shape a.n a.s a.target.now (target_fits (goal.at.convert_log-requires c).Else-geometry_bad-2).whole),
-    )
+    let a = c.args in 
+    record {
+      shape = (area-shape a.n a.s a.source.now (source_fits (goal.at.convert_log-requires c).Else-geometry_bad-2), sound-log a.n a.s a.source.now a.target.now (source_fits (goal.at.convert_log-requires c).Else-geometry_bad-2) (target_fits (goal.at.convert_log-requires c).Else-geometry_bad-2) _ _ _ _ (found (goal.at.convert_log-requires c).In-Sound));
+      top_value = (sound-top a.n a.s a.source.now a.target.now (source_fits (goal.at.convert_log-requires c).Else-geometry_bad-2) (target_fits (goal.at.convert_log-requires c).Else-geometry_bad-2) _ _ _ _ (found (goal.at.convert_log-requires c).In-Sound), (area-shape a.n a.s a.target.now (target_fits (goal.at.convert_log-requires c).Else-geometry_bad-2)).whole);
+    }
 
 pub returns-in-Refused : goal.returns-in-Refused
 returns-in-Refused c =
     let a = c.args in
-    convert-refused a.n a.s a.source.now a.target.now (source_fits (goal.at.returns-in-Refused c).Else-geometry_bad-2 (target_fits (goal.at.returns-in-Refused c).Else-geometry_bad-2 _ (sym c.look_at.ensures ∙ c.in-Refused.is)
+    convert-refused a.n a.s a.source.now a.target.now (source_fits (goal.at.returns-in-Refused c).Else-geometry_bad-2) (target_fits (goal.at.returns-in-Refused c).Else-geometry_bad-2) _ (sym c.look_at.ensures ∙ c.in-Refused.is)
 
 pub returns-in-Sound : goal.returns-in-Sound
 returns-in-Sound c =
     let a = c.args in
-    convert-sound a.n a.s a.source.now a.target.now (source_fits (goal.at.returns-in-Sound c).Else-geometry_bad-2 (target_fits (goal.at.returns-in-Sound c).Else-geometry_bad-2 _ _ _ _ (found (goal.at.returns-in-Sound c).In-Sound) _ _ c.convert_log.ensures
+    convert-sound a.n a.s a.source.now a.target.now (source_fits (goal.at.returns-in-Sound c).Else-geometry_bad-2) (target_fits (goal.at.returns-in-Sound c).Else-geometry_bad-2) _ _ _ _ (found (goal.at.returns-in-Sound c).In-Sound) _ _ c.convert_log.ensures

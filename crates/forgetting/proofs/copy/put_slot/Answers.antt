@@ -40,25 +40,17 @@ overflow_add-slot c = omega (arith, place c)
 
 pub put_entry-to-requires : goal.put_entry-to-requires
 put_entry-to-requires c =
-    let a = c.args in
-    let l = c.loop-header in
-    let cut = c.cut-s in
-    let h = c.in-Entry.header in (
-      c.requires.split_fits.marks-long,
-      (
-        entry-lies c.requires.split_fits.slots _ c.requires.slot_lt_slots _ cut.ensures _ _ (met (goal.at.put_entry-to-requires c).In-Entry.ranges,
-        (
-          place (goal.at.put_entry-to-requires c).In-Entry,
-          (
-            meets-long _ _ _ (met (goal.at.put_entry-to-requires c).In-Entry,
-            copying-room l.invariant c.requires.slot_in_bounds
+    let a = c.args in let l = c.loop-header in let cut = c.cut-s in let h = c.in-Entry.header in 
+    record {
+      marks_len = c.requires.split_fits.marks-long;
+      length_in_bounds = entry-lies c.requires.split_fits.slots _ c.requires.slot_lt_slots _ cut.ensures _ _ (met (goal.at.put_entry-to-requires c).In-Entry).ranges;
+      place_bound = place (goal.at.put_entry-to-requires c).In-Entry;
+      edition_bound = meets-long _ _ _ (met (goal.at.put_entry-to-requires c).In-Entry);
+      place_in_bounds = copying-room l.invariant c.requires.slot_in_bounds
                 (forgot_entry a.into a.area.now a.cells.now a.marks.now a.live a.edition h (a.slot * a.split.size + l.at))
                 (forgot_from a.edition a.into a.area.now a.cells.now a.marks.now a.live a.split.size a.slot cut.result.now (l.at + h.length))
-                (parts-entry _ (forgot_entry _ _ _ _ _) _ _ _ _ (met (goal.at.put_entry-to-requires c).In-Entry),
-          ),
-        ),
-      ),
-    )
+                (parts-entry _ (forgot_entry _ _ _ _ _) _ _ _ _ (met (goal.at.put_entry-to-requires c).In-Entry));
+    }
 
 pub overflow_add-at : goal.overflow_add-at
 overflow_add-at c =
@@ -69,7 +61,7 @@ loop-header-smaller c = omega (arith, met (goal.at.loop-header-smaller c).In-Ent
 
 pub loop-header-preserved : goal.loop-header-preserved
 loop-header-preserved c =
-    copying-next c.loop-header.invariant _ _ _ _ (parts-entry _ (forgot_entry _ _ _ _ _) _ _ _ _ (met (goal.at.loop-header-preserved c).In-Entry)
+    copying-next c.loop-header.invariant _ _ _ _ (parts-entry _ (forgot_entry _ _ _ _ _) _ _ _ _ (met (goal.at.loop-header-preserved c).In-Entry))
     c.put_entry-to.ensures
 
 pub shape_of-work-in-End : goal.shape_of-work-in-End

@@ -36,10 +36,10 @@ begin-requires c =
 
 pub returns-in-Refused : goal.returns-in-Refused
 returns-in-Refused c =
-    live-refused c.requires _ _ _ (own (goal.at.returns-in-Refused c).After-edition_of-edition c.new_edition-into.ensures
+    live-refused c.requires _ _ _ (own (goal.at.returns-in-Refused c).After-edition_of-edition) c.new_edition-into.ensures
     c.fits_segment-fits.ensures _ (sym c.in-Refused.is ∙ c.check_full.ensures) _ c.refused.ensures
 
 pub returns-in-Passed : goal.returns-in-Passed
 returns-in-Passed c =
-    live-begun c.requires _ _ _ (own (goal.at.returns-in-Passed c).After-edition_of-edition c.new_edition-into.ensures
+    live-begun c.requires _ _ _ (own (goal.at.returns-in-Passed c).After-edition_of-edition) c.new_edition-into.ensures
     c.fits_segment-fits.ensures (sym c.in-Passed.is ∙ c.check_full.ensures) c.begin.ensures

@@ -46,7 +46,7 @@ short c =
       arith,
       c.measure_entry-total.ensures,
       forgot-long a.into a.area.now a.cells.now a.marks.now a.live a.edition c.in-Entry.header
-          (a.slot * a.split.size + c.loop-header.at) (low (lies,
+          (a.slot * a.split.size + c.loop-header.at) (low) (lies),
     )
 
 pub cut-s-requires : goal.cut-s-requires
@@ -86,9 +86,9 @@ loop-header-smaller c = omega (arith, met (goal.at.loop-header-smaller c).In-Ent
 pub loop-header-preserved : goal.loop-header-preserved
 loop-header-preserved c =
     let l = c.loop-header in (
-      measured-entry _ (forgot_entry _ _ _ _ _) _ _ _ _ _ _ l.invariant.0 (met (goal.at.loop-header-preserved c).In-Entry _ c.measure_entry-total.ensures _ refl,
+      measured-entry _ (forgot_entry _ _ _ _ _) _ _ _ _ _ _ l.invariant.0 (met (goal.at.loop-header-preserved c).In-Entry) _ c.measure_entry-total.ensures _ refl,
       omega (arith, short (goal.at.loop-header-preserved c).After-measure_entry-total, l.invariant.1),
-      omega (arith, met (goal.at.loop-header-preserved c).In-Entry,
+      omega (arith, met (goal.at.loop-header-preserved c).In-Entry),
     )
 
 pub returns-in-End : goal.returns-in-End

@@ -22,7 +22,7 @@ pub no_room-requires : goal.no_room-requires
 no_room-requires c =
     let a = c.args in (
       omega (arith, c.head_size-length.ensures, width-high a.rec.edition),
-      (delete-lent _ a.tables a.rec a.area.now a.index.now a.work.now a.key (passed (goal.at.no_room-requires c).In-Passed).map_below,
+      (delete-lent _ a.tables a.rec a.area.now a.index.now a.work.now a.key (passed (goal.at.no_room-requires c).In-Passed)).map_below,
     )
 
 -- what the test for room found
@@ -34,13 +34,13 @@ full-test c = rw c.head_size-length.ensures at c.no_room.ensures
 pub forget-requires : goal.forget-requires
 forget-requires c =
     let a = c.args in
-    forget-ready _ a.tables a.rec a.area.now a.index.now a.work.now a.key (passed (goal.at.forget-requires c).In-Passed refl
+    forget-ready _ a.tables a.rec a.area.now a.index.now a.work.now a.key (passed (goal.at.forget-requires c).In-Passed) refl
 
 pub returns-then-no_room : goal.returns-then-no_room
 returns-then-no_room c =
     let bytes : Bytes c.args.area.now = λ i. omega (arith, c.type_inv.area i) in
     let a = c.args in
-    forget-promise _ a.tables a.rec a.area.now a.index.now a.work.now a.key (passed (goal.at.returns-then-no_room c).In-Passed
+    forget-promise _ a.tables a.rec a.area.now a.index.now a.work.now a.key (passed (goal.at.returns-then-no_room c).In-Passed)
     (sym (full-test (goal.at.returns-then-no_room c).After-no_room) ∙ c.if-no_room.true) (bytes) _ _ c.forget.ensures
 
 pub check_number-requires : goal.check_number-requires
@@ -50,14 +50,13 @@ check_number-requires c =
 
 pub lay_entry-laying-requires : goal.lay_entry-laying-requires
 lay_entry-laying-requires c =
-    let a = c.args in (
-      delete-ready _ a.tables a.rec a.area.now a.index.now a.work.now a.key (passed (goal.at.lay_entry-laying-requires c).In-Passed (edition-roomy _),
-      (
-        delete-number _ a.tables a.rec a.area.now a.index.now a.work.now a.key (passed (goal.at.lay_entry-laying-requires c).In-Passed
-            (sym (full-test (goal.at.lay_entry-laying-requires c).After-no_room) ∙ c.if-no_room.false) _ c.head_size-length.ensures (sym c.in-Passed-check_number.is ∙ c.check_number.ensures),
-        rw c.tombstone_kind.ensures (tombstone-length _),
-      ),
-    )
+    let a = c.args in 
+    record {
+      entry_ready = delete-ready _ a.tables a.rec a.area.now a.index.now a.work.now a.key (passed (goal.at.lay_entry-laying-requires c).In-Passed) (edition-roomy _);
+      number_left = delete-number _ a.tables a.rec a.area.now a.index.now a.work.now a.key (passed (goal.at.lay_entry-laying-requires c).In-Passed)
+            (sym (full-test (goal.at.lay_entry-laying-requires c).After-no_room) ∙ c.if-no_room.false) _ c.head_size-length.ensures (sym c.in-Passed-check_number.is ∙ c.check_number.ensures);
+      kind_value = rw c.tombstone_kind.ensures (tombstone-length _);
+    }
 
 pub returns-in-Refused : goal.returns-in-Refused
 returns-in-Refused c =
@@ -67,13 +66,13 @@ returns-in-Refused c =
 pub returns-in-Refused-check_number : goal.returns-in-Refused-check_number
 returns-in-Refused-check_number c =
     let a = c.args in
-    delete-spent _ a.tables a.rec a.area.now a.index.now a.work.now a.key (passed (goal.at.returns-in-Refused-check_number c).In-Passed
+    delete-spent _ a.tables a.rec a.area.now a.index.now a.work.now a.key (passed (goal.at.returns-in-Refused-check_number c).In-Passed)
     (sym (full-test (goal.at.returns-in-Refused-check_number c).After-no_room) ∙ c.if-no_room.false) _ c.head_size-length.ensures _
     (sym c.in-Refused-check_number.is ∙ c.check_number.ensures) _ c.refused-in-Refused-check_number.ensures
 
 pub returns-in-Passed-check_number : goal.returns-in-Passed-check_number
 returns-in-Passed-check_number c =
     let a = c.args in
-    delete-laid _ a.tables a.rec a.area.now a.index.now a.work.now a.key (passed (goal.at.returns-in-Passed-check_number c).In-Passed
+    delete-laid _ a.tables a.rec a.area.now a.index.now a.work.now a.key (passed (goal.at.returns-in-Passed-check_number c).In-Passed)
     (sym (full-test (goal.at.returns-in-Passed-check_number c).After-no_room) ∙ c.if-no_room.false) _ c.head_size-length.ensures (sym c.in-Passed-check_number.is ∙ c.check_number.ensures) _ _
     (laid-started a.rec c.started.ensures (rw c.tombstone_kind.ensures at c.lay_entry-laying.ensures))

@@ -71,7 +71,7 @@ returns-then-there-version c =
     record { answer = Inserted.Newer (get_or c.args.cells.now c.in-At.i 0 - 1); cells = l })
     c.put-then-there-version.ensures
     ∙ sym
-    (insert-newer _ _ _ _ _ _ (is_at (goal.at.returns-then-there-version c).In-At (rw (ap (λ (x : Version). x.0) c.version_there-there.ensures) at c.if-there-version.true))) refl
+    (insert-newer _ _ _ _ _ _ (is_at (goal.at.returns-then-there-version c).In-At) (rw (ap (λ (x : Version). x.0) c.version_there-there.ensures) at c.if-there-version.true))) refl
 
 pub returns-else-there-version : goal.returns-else-there-version
 returns-else-there-version c =

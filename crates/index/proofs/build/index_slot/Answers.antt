@@ -47,10 +47,10 @@ returns-in_default c =
 -- a segment is shorter than the bound of the way to the next entry, and a tombstone has no value
 pub behind-at-requires : goal.behind-at-requires
 behind-at-requires c =
-    (
-      omega (arith, fits (goal.at.behind-at-requires c).In-Entry,
-      next-tombstone _ _ _ _ c.next.ensures _ c.in-Entry.is,
-    )
+    record {
+      length_bound = omega (arith, fits (goal.at.behind-at-requires c).In-Entry);
+      length_value = next-tombstone _ _ _ _ c.next.ensures _ c.in-Entry.is;
+    }
 
 pub loop-header-smaller : goal.loop-header-smaller
 loop-header-smaller c = omega (arith, c.behind-at.ensures, fits (goal.at.loop-header-smaller c).In-Entry)

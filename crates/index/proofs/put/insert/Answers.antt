@@ -53,7 +53,7 @@ returns-then-there-version c =
     record { answer = Inserted.Newer (get_or c.args.cells.now c.in-At.i 0 - 1); cells = l })
     c.put-then-there-version.ensures
     ∙ sym
-    (insert-newer _ _ _ _ _ _ (is_at (goal.at.returns-then-there-version c).In-At (rw (ap (λ (x : Version). x.0) c.version_there-there.ensures) at c.if-there-version.true))
+    (insert-newer _ _ _ _ _ _ (is_at (goal.at.returns-then-there-version c).In-At) (rw (ap (λ (x : Version). x.0) c.version_there-there.ensures) at c.if-there-version.true))
 
 pub returns-in-Full : goal.returns-in-Full
 returns-in-Full c = sym (insert-full _ _ _ _ _ (sym c.search.ensures ∙ c.in-Full.is))

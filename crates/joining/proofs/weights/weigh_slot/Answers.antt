@@ -84,7 +84,7 @@ loop-header-smaller-then-header c = omega (arith, tombstone-long (goal.at.loop-h
 pub loop-header-preserved-then-header : goal.loop-header-preserved-then-header
 loop-header-preserved-then-header c =
     weighing-tombstone _ _ _ _ _ _ _ _ _ _ _ (c.loop-header.invariant W e) (met (goal.at.loop-header-preserved-then-header c).In-Entry) c.if-header.true _ _ c.head_size-head.ensures e _
-    c.note_share-share.ensures (row (goal.at.loop-header-preserved-then-header c).At-loop-header _ _ c.add_share-total.ensures
+    c.note_share-share.ensures (row (goal.at.loop-header-preserved-then-header c).At-loop-header) _ _ c.add_share-total.ensures
 
 pub overflow_add-at-else-header : goal.overflow_add-at-else-header
 overflow_add-at-else-header c = omega (arith, (met (goal.at.overflow_add-at-else-header c).In-Entry).fits, long (goal.at.overflow_add-at-else-header c).After-cut-s, c.requires.slots_fit.size-high)

@@ -1,4 +1,6 @@
 -- `kurdavel::fewest::kurdavel_fewest` meets its contract.
+use mathlib.Core.Path.{ap}
+use mathlib.Core.Bool.{not}
 use mathlib.Core.Path.{refl, ◌∙◌}
 use native.Mathlib.Omega.{arith}
 use Rattle.word.specs.Laws.{product_lt}
@@ -21,15 +23,15 @@ pub overflow_cast-words : goal.overflow_cast-words
 overflow_cast-words c = omega (arith, c.type_inv.words 2)
 
 pub returns-then-not-fits : goal.returns-then-not-fits
-returns-then-not-fits c = fewest-bad c.args.words.now (c.fits.ensures ∙ words-range _) c.if-not-fits.true
+returns-then-not-fits c = fewest-bad c.args.words.now (c.fits.ensures ∙ words-range _) (ap not c.if-not-fits.true)
 
 pub fewest_slot-requires : goal.fewest_slot-requires
 fewest_slot-requires c =
     let w = c.args.words.now in
     let in-range = c.fits.ensures ∙ words-range w in
-    let l = range-lent w in-range c.if-not-fits.false in
-    (l.slots-high, omega (arith, l.slots-high, range-counts w in-range c.if-not-fits.false), l.head-below, l.head-named)
+    let l = range-lent w in-range (ap not c.if-not-fits.false) in
+    (l.slots-high, omega (arith, l.slots-high, range-counts w in-range (ap not c.if-not-fits.false)), l.head-below, l.head-named)
 
 pub returns : goal.returns
 returns c =
-    fewest-told c.args.words.now (c.fits.ensures ∙ words-range _) c.if-not-fits.false c.fewest_slot.ensures
+    fewest-told c.args.words.now (c.fits.ensures ∙ words-range _) (ap not c.if-not-fits.false) c.fewest_slot.ensures

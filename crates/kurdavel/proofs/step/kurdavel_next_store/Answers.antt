@@ -1,4 +1,5 @@
 -- `kurdavel::step::kurdavel_next_store` meets its contract.
+use mathlib.Core.Bool.{not}
 use mathlib.Core.Path.{◌≡◌, refl, sym, ap}
 use native.Mathlib.Omega.{arith}
 use Rattle.telling.specs.Told.{found_by}
@@ -19,14 +20,14 @@ pub returns-then-not-fits : goal.returns-then-not-fits
 unfolding place_told byte_told
 returns-then-not-fits c =
     let a = c.args in
-    told-crossed a.words.now a.area.now a.work.now (sym (bad-found a.words.now a.area.now a.work.now _ c.fits.ensures c.if-not-fits.true)) refl refl refl refl
+    told-crossed a.words.now a.area.now a.work.now (sym (bad-found a.words.now a.area.now a.work.now _ c.fits.ensures (ap not c.if-not-fits.true))) refl refl refl refl
 
 pub found_in-requires : goal.found_in-requires
 found_in-requires c =
     let a = c.args in 
     record {
-      record_words_in_bounds = front_long a.words.now a.area.now a.work.now _ c.fits.ensures c.if-not-fits.false;
-      front_fits = front-lent a.words.now a.area.now a.work.now _ c.fits.ensures c.if-not-fits.false;
+      record_words_in_bounds = front_long a.words.now a.area.now a.work.now _ c.fits.ensures (ap not c.if-not-fits.false);
+      front_fits = front-lent a.words.now a.area.now a.work.now _ c.fits.ensures (ap not c.if-not-fits.false);
     }
 
 -- what is found
@@ -35,7 +36,7 @@ found-is : (s : After-found_in)
     answered a.work.now s.found_in.result ≡ found_by (decoded a.words.now).rec.edition (decoded a.words.now).rec a.area.now (word a.words.now 2) a.work.now
 found-is s =
     let a = s.args in
-    front-found a.words.now a.area.now a.work.now _ s.fits.ensures s.if-not-fits.false (s.found_in.ensures.told a.work.now refl)
+    front-found a.words.now a.area.now a.work.now _ s.fits.ensures (ap not s.if-not-fits.false) (s.found_in.ensures.told a.work.now refl)
 
 pub byte_from-requires : goal.byte_from-requires
 byte_from-requires c = c.found_in.ensures.inside _ _ _ c.in-At.is

@@ -1,4 +1,5 @@
 -- `kurdavel::step::kurdavel_step` meets its contract.
+use mathlib.Core.Bool.{not}
 use Prim.Native.Nat.{◌≤◌, ◌<◌}
 use mathlib.Core.Path.{◌≡◌, refl, sym, ◌∙◌, ap}
 use native.Mathlib.Omega.{arith}
@@ -15,14 +16,14 @@ pub returns-then-not-fits : goal.returns-then-not-fits
 returns-then-not-fits c =
     let half : word c.args.words.now 7 < 4294967296 = omega (arith, c.type_inv.words 7) in
     let a = c.args in
-    on-refused a.words.now a.area.now a.work.now (half) a.index.now _ _ _ (bad-found a.words.now a.area.now a.work.now (length a.index.now) c.fits.ensures c.if-not-fits.true) refl
+    on-refused a.words.now a.area.now a.work.now (half) a.index.now _ _ _ (bad-found a.words.now a.area.now a.work.now (length a.index.now) c.fits.ensures (ap not c.if-not-fits.true)) refl
 
 pub found_in-requires : goal.found_in-requires
 found_in-requires c =
     let a = c.args in 
     record {
-      record_words_in_bounds = front_long a.words.now a.area.now a.work.now (length a.index.now) c.fits.ensures c.if-not-fits.false;
-      front_fits = front-lent a.words.now a.area.now a.work.now (length a.index.now) c.fits.ensures c.if-not-fits.false;
+      record_words_in_bounds = front_long a.words.now a.area.now a.work.now (length a.index.now) c.fits.ensures (ap not c.if-not-fits.false);
+      front_fits = front-lent a.words.now a.area.now a.work.now (length a.index.now) c.fits.ensures (ap not c.if-not-fits.false);
     }
 
 -- what is found, with the work buffer
@@ -31,12 +32,12 @@ found-is : (s : After-found_in)
     answered a.work.now s.found_in.result ≡ found_by (decoded a.words.now).rec.edition (decoded a.words.now).rec a.area.now (length a.index.now) a.work.now
 found-is s =
     let a = s.args in
-    front-found a.words.now a.area.now a.work.now (length a.index.now) s.fits.ensures s.if-not-fits.false (s.found_in.ensures.told a.work.now refl)
+    front-found a.words.now a.area.now a.work.now (length a.index.now) s.fits.ensures (ap not s.if-not-fits.false) (s.found_in.ensures.told a.work.now refl)
 
 long : (s : After-found_in) → record_words ≤ length s.args.words.now
 long s =
     let a = s.args in
-    front_long a.words.now a.area.now a.work.now (length a.index.now) s.fits.ensures s.if-not-fits.false
+    front_long a.words.now a.area.now a.work.now (length a.index.now) s.fits.ensures (ap not s.if-not-fits.false)
 
 pub byte_from-requires : goal.byte_from-requires
 byte_from-requires c = c.found_in.ensures.inside _ _ _ c.in-At.is
@@ -46,7 +47,7 @@ at-is : (b : After-byte_from)
     → let a =
     let found-is : let a = b.args in
     answered a.work.now b.found_in.result ≡ found_by (decoded a.words.now).rec.edition (decoded a.words.now).rec a.area.now (length a.index.now) a.work.now = let a = b.args in
-    front-found a.words.now a.area.now a.work.now (length a.index.now) b.fits.ensures b.if-not-fits.false (b.found_in.ensures.told a.work.now refl) in
+    front-found a.words.now a.area.now a.work.now (length a.index.now) b.fits.ensures (ap not b.if-not-fits.false) (b.found_in.ensures.told a.work.now refl) in
     b.args in
     found_by (decoded a.words.now).rec.edition (decoded a.words.now).rec a.area.now (length a.index.now) a.work.now
     ≡ TellAnswer.At b.in-At.place b.byte_from.result
@@ -64,17 +65,17 @@ bounds-words-16 c = omega (arith, long (goal.at.bounds-words-16 c).After-found_i
 pub overflow_sub-rest : goal.overflow_sub-rest
 overflow_sub-rest c =
     let a = c.args in
-    on-left a.words.now a.area.now a.work.now a.index.now 0 0 _ _ (at-is (goal.at.overflow_sub-rest c).After-byte_from
+    on-left a.words.now a.area.now a.work.now a.index.now 0 0 _ _ (at-is (goal.at.overflow_sub-rest c).After-byte_from)
 
 pub finish-requires : goal.finish-requires
 finish-requires c =
     let a = c.args in
-    on-ready a.words.now a.area.now a.work.now a.index.now 0 0 _ _ (at-is (goal.at.finish-requires c).After-byte_from
+    on-ready a.words.now a.area.now a.work.now a.index.now 0 0 _ _ (at-is (goal.at.finish-requires c).After-byte_from)
 
 pub returns-then-rest-eq0 : goal.returns-then-rest-eq0
 returns-then-rest-eq0 c =
     let a = c.args in
-    on-last a.words.now a.area.now a.work.now a.index.now _ _ _ _ (at-is (goal.at.returns-then-rest-eq0 c).After-byte_from c.finish.ensures
+    on-last a.words.now a.area.now a.work.now a.index.now _ _ _ _ (at-is (goal.at.returns-then-rest-eq0 c).After-byte_from) c.finish.ensures
 
 pub bounds-words-16-in-At : goal.bounds-words-16-in-At
 bounds-words-16-in-At c = omega (arith, long (goal.at.bounds-words-16-in-At c).After-found_in)
@@ -90,4 +91,4 @@ pub returns-else-rest-eq0 : goal.returns-else-rest-eq0
 returns-else-rest-eq0 c =
     let half : word c.args.words.now 7 < 4294967296 = omega (arith, c.type_inv.words 7) in
     let a = c.args in
-    on-stored a.words.now a.area.now a.work.now (half) a.index.now _ _ _ _ (at-is (goal.at.returns-else-rest-eq0 c).After-byte_from (omega (arith, on-left a.words.now a.area.now a.work.now a.index.now 0 0 _ _ (at-is (goal.at.returns-else-rest-eq0 c).After-byte_from, c.if-rest-eq0.false)) refl
+    on-stored a.words.now a.area.now a.work.now (half) a.index.now _ _ _ _ (at-is (goal.at.returns-else-rest-eq0 c).After-byte_from) (omega (arith, on-left a.words.now a.area.now a.work.now a.index.now 0 0 _ _ (at-is (goal.at.returns-else-rest-eq0 c).After-byte_from), c.if-rest-eq0.false)) refl

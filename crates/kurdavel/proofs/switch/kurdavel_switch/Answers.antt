@@ -1,4 +1,6 @@
 -- `kurdavel::switch::kurdavel_switch` meets its contract.
+use mathlib.Core.Path.{ap}
+use mathlib.Core.Bool.{not}
 use Prim.Native.Nat.{◌<◌}
 use mathlib.Core.Path.{refl, ◌∙◌}
 use native.Mathlib.Omega.{arith}
@@ -28,19 +30,19 @@ overflow_cast-cells c = omega (arith, c.slice_known-4-1.given 2)
 pub returns-then-not-fits : goal.returns-then-not-fits
 returns-then-not-fits c =
     let half : word c.args.words.now 7 < 4294967296 = omega (arith, c.type_inv.words 7) in
-    switch-bad _ (half) (c.fits.ensures ∙ words-range _) c.if-not-fits.true
+    switch-bad _ (half) (c.fits.ensures ∙ words-range _) (ap not c.if-not-fits.true)
 
 pub returns-then-words-ne0 : goal.returns-then-words-ne0
 returns-then-words-ne0 c =
     let half : word c.args.words.now 7 < 4294967296 = omega (arith, c.type_inv.words 7) in
-    switch-busy _ (half) (c.fits.ensures ∙ words-range _) c.if-not-fits.false c.if-words-ne0.true
+    switch-busy _ (half) (c.fits.ensures ∙ words-range _) (ap not c.if-not-fits.false) c.if-words-ne0.true
 
 pub returns-then-words-eq1 : goal.returns-then-words-eq1
 returns-then-words-eq1 c =
     let half : word c.args.words.now 7 < 4294967296 = omega (arith, c.type_inv.words 7) in
-    switch-turned _ (half) (c.fits.ensures ∙ words-range _) c.if-not-fits.false c.if-words-ne0.false c.if-words-eq1.true
+    switch-turned _ (half) (c.fits.ensures ∙ words-range _) (ap not c.if-not-fits.false) c.if-words-ne0.false c.if-words-eq1.true
 
 pub returns-else-words-eq1 : goal.returns-else-words-eq1
 returns-else-words-eq1 c =
     let half : word c.args.words.now 7 < 4294967296 = omega (arith, c.type_inv.words 7) in
-    switch-stays _ (half) (c.fits.ensures ∙ words-range _) c.if-not-fits.false c.if-words-ne0.false c.if-words-eq1.false
+    switch-stays _ (half) (c.fits.ensures ∙ words-range _) (ap not c.if-not-fits.false) c.if-words-ne0.false c.if-words-eq1.false

@@ -24,10 +24,10 @@ returns-then-not-holds_table c = sym (looked-outside _ _ _ _ _ _ (fit (goal.at.r
 
 pub look_at-requires : goal.look_at-requires
 look_at-requires c =
-    λ i f. reached _ _ _ _ _ _ (fit (goal.at.look_at-requires c).Else-not-fits_lent) (held (goal.at.look_at-requires c).Else-not-holds_table i (sym c.search.ensures ∙ f)
+    λ i f. reached _ _ _ _ _ _ (fit (goal.at.look_at-requires c).Else-not-fits_lent) (held (goal.at.look_at-requires c).Else-not-holds_table) i (sym c.search.ensures ∙ f)
 
 pub returns : goal.returns
 returns c =
     c.look_at.ensures
     ∙ ap (lookup_at _ _) c.search.ensures
-    ∙ sym (looked-fit _ _ _ _ _ _ (fit (goal.at.returns c).Else-not-fits_lent) (held (goal.at.returns c).Else-not-holds_table)
+    ∙ sym (looked-fit _ _ _ _ _ _ (fit (goal.at.returns c).Else-not-fits_lent) (held (goal.at.returns c).Else-not-holds_table))

@@ -27,6 +27,12 @@ overflow_add-result-in-Object c = let h = inside (goal.at.overflow_add-result-in
 pub slice_bounds-result-count : goal.slice_bounds-result-count
 slice_bounds-result-count c = let h = inside (goal.at.slice_bounds-result-count c).In-Object in omega (arith, start c)
 
+pub slice_bounds-result-start : goal.slice_bounds-result-start
+slice_bounds-result-start c = let h = inside (goal.at.slice_bounds-result-start c).In-Object in omega (arith, start c)
+
+pub slice_bounds-result-end : goal.slice_bounds-result-end
+slice_bounds-result-end c = let h = inside (goal.at.slice_bounds-result-end c).In-Object in omega (arith, start c)
+
 pub returns-in-Object : goal.returns-in-Object
 unfolding part_by
 returns-in-Object c =

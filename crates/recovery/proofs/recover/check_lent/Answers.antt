@@ -29,9 +29,9 @@ order_bad-requires c = let f = geometry-fits _ _ _ (fits (goal.at.order_bad-requ
 pub returns-then-order_bad : goal.returns-then-order_bad
 returns-then-order_bad c =
     let a = c.args in
-    lent-order a.n a.s a.index a.area a.order.now (fits (goal.at.returns-then-order_bad c).Else-geometry_bad) (cells_fit (goal.at.returns-then-order_bad c).Else-not-cells_good (sym c.order_bad.ensures ∙ c.if-order_bad.true)
+    lent-order a.n a.s a.index a.area a.order.now (fits (goal.at.returns-then-order_bad c).Else-geometry_bad) (cells_fit (goal.at.returns-then-order_bad c).Else-not-cells_good) (sym c.order_bad.ensures ∙ c.if-order_bad.true)
 
 pub returns : goal.returns
 returns c =
     let a = c.args in
-    lent-passed a.n a.s a.index a.area a.order.now (fits (goal.at.returns c).Else-geometry_bad) (cells_fit (goal.at.returns c).Else-not-cells_good (sym c.order_bad.ensures ∙ c.if-order_bad.false)
+    lent-passed a.n a.s a.index a.area a.order.now (fits (goal.at.returns c).Else-geometry_bad) (cells_fit (goal.at.returns c).Else-not-cells_good) (sym c.order_bad.ensures ∙ c.if-order_bad.false)

@@ -20,11 +20,11 @@ cut-requires c =
 
 pub returns-then-editions_bad : goal.returns-then-editions_bad
 returns-then-editions_bad c =
-    head-mixed c.args.single _ _ _ c.requires.1 _ (own (goal.at.returns-then-editions_bad c).After-edition_of-edition (sym c.editions_bad.ensures ∙ c.if-editions_bad.true)
+    head-mixed c.args.single _ _ _ c.requires.1 _ (own (goal.at.returns-then-editions_bad c).After-edition_of-edition) (sym c.editions_bad.ensures ∙ c.if-editions_bad.true)
 
 pub returns-then-not-passed : goal.returns-then-not-passed
 returns-then-not-passed c =
-    head-damaged c.args.single _ _ _ c.requires.1 _ (own (goal.at.returns-then-not-passed c).After-edition_of-edition (sym c.editions_bad.ensures ∙ c.if-editions_bad.false)
+    head-damaged c.args.single _ _ _ c.requires.1 _ (own (goal.at.returns-then-not-passed c).After-edition_of-edition) (sym c.editions_bad.ensures ∙ c.if-editions_bad.false)
     (c.survey-passed.ensures.damage c.if-not-passed.true)
 
 pub version_shared-requires : goal.version_shared-requires
@@ -38,12 +38,12 @@ version_shared-requires c =
 
 pub returns-then-version_shared : goal.returns-then-version_shared
 returns-then-version_shared c =
-    head-shared c.args.single _ _ _ c.requires.1 _ (own (goal.at.returns-then-version_shared c).After-edition_of-edition (sym c.editions_bad.ensures ∙ c.if-editions_bad.false)
+    head-shared c.args.single _ _ _ c.requires.1 _ (own (goal.at.returns-then-version_shared c).After-edition_of-edition) (sym c.editions_bad.ensures ∙ c.if-editions_bad.false)
     (c.survey-passed.ensures.undamaged c.if-not-passed.false) (sym c.version_shared.ensures ∙ c.if-version_shared.true)
 
 pub returns : goal.returns
 returns c =
     let whole = c.if-not-passed.false in
-    head-sound c.args.single _ _ _ c.requires.1 _ (own (goal.at.returns c).After-edition_of-edition (sym c.editions_bad.ensures ∙ c.if-editions_bad.false)
+    head-sound c.args.single _ _ _ c.requires.1 _ (own (goal.at.returns c).After-edition_of-edition) (sym c.editions_bad.ensures ∙ c.if-editions_bad.false)
     (c.survey-passed.ensures.undamaged whole) _
     (λ i. record { 0 = c.survey-passed.ensures.highest-is whole i }) (sym c.version_shared.ensures ∙ c.if-version_shared.false)

@@ -33,22 +33,22 @@ overflow_cast-index c =
 pub overflow_cast-keys : goal.overflow_cast-keys
 overflow_cast-keys c =
     let a = c.args in
-    omega (arith, keys-few c.in-Sound.edition a.n a.s a.order.now a.area.now a.index.now c.requires _ _ _ (sound (goal.at.overflow_cast-keys c).In-Sound _ _ _ c.build.ensures c.in-Keys.is)
+    omega (arith, keys-few c.in-Sound.edition a.n a.s a.order.now a.area.now a.index.now c.requires _ _ _ (sound (goal.at.overflow_cast-keys c).In-Sound) _ _ _ c.build.ensures c.in-Keys.is)
 
 pub count-requires : goal.count-requires
 count-requires c =
     let a = c.args in
     let f = lent_fits a.n a.s a.order.now a.area.now a.index.now c.requires in
-    let long = cells-kept c.in-Sound.edition a.n a.s a.order.now a.area.now a.index.now c.requires _ _ _ (sound (goal.at.count-requires c).In-Sound _ _ _ c.build.ensures c.in-Keys.is in
+    let long = cells-kept c.in-Sound.edition a.n a.s a.order.now a.area.now a.index.now c.requires _ _ _ (sound (goal.at.count-requires c).In-Sound) _ _ _ c.build.ensures c.in-Keys.is in
     (omega arith, omega (arith, long))
 
 pub record_of-requires : goal.record_of-requires
 record_of-requires c =
     let a = c.args in
     let f = lent_fits a.n a.s a.order.now a.area.now a.index.now c.requires in
-    let below = head-inside c.in-Sound.edition a.n a.s a.order.now a.area.now a.index.now c.requires _ _ _ (sound (goal.at.record_of-requires c).In-Sound in (
+    let below = head-inside c.in-Sound.edition a.n a.s a.order.now a.area.now a.index.now c.requires _ _ _ (sound (goal.at.record_of-requires c).In-Sound) in (
       slot-inside a.area.now a.n a.s c.in-Sound.slot f.area-own below,
-      highest-fits c.in-Sound.edition a.n a.s a.order.now a.area.now a.index.now c.requires _ _ _ (sound (goal.at.record_of-requires c).In-Sound,
+      highest-fits c.in-Sound.edition a.n a.s a.order.now a.area.now a.index.now c.requires _ _ _ (sound (goal.at.record_of-requires c).In-Sound),
       omega arith,
       omega arith,
     )
@@ -61,11 +61,11 @@ returns-in-Refused c =
 pub returns-in-TooMany : goal.returns-in-TooMany
 returns-in-TooMany c =
     let a = c.args in
-    over-promise c.in-Sound.edition a.n a.s a.order.now a.area.now a.index.now c.requires _ _ _ (sound (goal.at.returns-in-TooMany c).In-Sound _ _ _ c.build.ensures
+    over-promise c.in-Sound.edition a.n a.s a.order.now a.area.now a.index.now c.requires _ _ _ (sound (goal.at.returns-in-TooMany c).In-Sound) _ _ _ c.build.ensures
     c.in-TooMany.is c.refused-in-TooMany.ensures
 
 pub returns-in-Keys : goal.returns-in-Keys
 returns-in-Keys c =
     let a = c.args in
-    keys-promise c.in-Sound.edition a.n a.s a.order.now a.area.now a.index.now c.requires _ _ _ (sound (goal.at.returns-in-Keys c).In-Sound _ _ _ _ _ c.build.ensures
+    keys-promise c.in-Sound.edition a.n a.s a.order.now a.area.now a.index.now c.requires _ _ _ (sound (goal.at.returns-in-Keys c).In-Sound) _ _ _ _ _ c.build.ensures
     c.in-Keys.is c.count.ensures c.record_of.ensures

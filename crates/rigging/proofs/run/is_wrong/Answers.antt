@@ -1,7 +1,8 @@
+use Prim.Native.Nat.{◌-◌}
 use mathlib.Core.Path.{refl, sym}
 use native.Mathlib.Omega.{arith}
 use Rattle.rig_model.specs.CheckLaws.{area-long}
-use Rattle.histories.specs.Numbered.{word}
+use Rattle.histories.specs.Numbered.{word, unit-positive}
 use Rattle.rig_model.specs.Verdict.{history_wrong}
 use Rattle.rig_model.specs.PlayLaws.{format-fresh, fresh-ready, word-start}
 use Rattle.rig_model.specs.LoopLaws.{run-wrong, run-turn, run_end}
@@ -9,6 +10,12 @@ use Rattle.rigging.proofs.run.is_wrong.Goals as goal
 
 pub loop-left-init : goal.loop-left-init
 loop-left-init c = (omega arith, record { ready = fresh-ready _ _ _ c.recover-fresh.result (format-fresh _ _ c.format.ensures) refl c.recover-fresh.ensures; work-long = refl; decides = word-start c.args.faulty _ _ _ (format-fresh _ _ c.format.ensures) c.fresh-book.ensures })
+
+pub nonzero_div-rest : goal.nonzero_div-rest
+nonzero_div-rest c = unit-positive (c.loop-left.left - 1) c.words-unit.result c.words-unit.ensures
+
+pub nonzero_rem-rest : goal.nonzero_rem-rest
+nonzero_rem-rest c = unit-positive (c.loop-left.left - 1) c.words-unit.result c.words-unit.ensures
 
 pub slice_bounds-play-end : goal.slice_bounds-play-end
 slice_bounds-play-end c = sym (area-long c.loop-left.area c.loop-left.rec c.loop-left.invariant.1.ready.bytes c.loop-left.invariant.1.ready.recovers)

@@ -28,6 +28,12 @@ overflow_add-result-in-Object c = let h = inside (goal.at.overflow_add-result-in
 pub slice_bounds-result-count-in-Object : goal.slice_bounds-result-count-in-Object
 slice_bounds-result-count-in-Object c = let h = inside (goal.at.slice_bounds-result-count-in-Object c).In-Object in omega (arith, start c)
 
+pub slice_bounds-result-start-in-Object : goal.slice_bounds-result-start-in-Object
+slice_bounds-result-start-in-Object c = let h = inside (goal.at.slice_bounds-result-start-in-Object c).In-Object in omega (arith, start c)
+
+pub slice_bounds-result-end-in-Object : goal.slice_bounds-result-end-in-Object
+slice_bounds-result-end-in-Object c = let h = inside (goal.at.slice_bounds-result-end-in-Object c).In-Object in omega (arith, start c)
+
 pub returns-in-Refused : goal.returns-in-Refused
 unfolding part_for
 returns-in-Refused c =

@@ -32,15 +32,15 @@ look_at-requires c =
 pub seek_in-requires : goal.seek_in-requires
 seek_in-requires c =
     let a = c.args in
-    (seek-shape a.n a.s a.area.now (fits (goal.at.seek_in-requires c).Else-geometry_bad, seek-scans a.n a.s a.area.now a.tables a.key (fits (goal.at.seek_in-requires c).Else-geometry_bad _ _ _ _ (found c))
+    (seek-shape a.n a.s a.area.now (fits (goal.at.seek_in-requires c).Else-geometry_bad), seek-scans a.n a.s a.area.now a.tables a.key (fits (goal.at.seek_in-requires c).Else-geometry_bad) _ _ _ _ (found c))
 
 pub returns-in-Refused : goal.returns-in-Refused
 returns-in-Refused c =
     let a = c.args in
-    seek-refused a.n a.s a.area.now a.tables a.key (fits (goal.at.returns-in-Refused c).Else-geometry_bad _
+    seek-refused a.n a.s a.area.now a.tables a.key (fits (goal.at.returns-in-Refused c).Else-geometry_bad) _
     (sym c.look_at.ensures ∙ c.in-Refused.is)
 
 pub returns-in-Sound : goal.returns-in-Sound
 returns-in-Sound c =
     let a = c.args in
-    seek-sound a.n a.s a.area.now a.tables a.key (fits (goal.at.returns-in-Sound c).Else-geometry_bad _ _ _ _ (found (goal.at.returns-in-Sound c).In-Sound) _ c.seek_in.ensures
+    seek-sound a.n a.s a.area.now a.tables a.key (fits (goal.at.returns-in-Sound c).Else-geometry_bad) _ _ _ _ (found (goal.at.returns-in-Sound c).In-Sound) _ c.seek_in.ensures

@@ -17,9 +17,9 @@ returns-then-not-holds_table c =
 pub returns-then-version-eq0 : goal.returns-then-version-eq0
 returns-then-version-eq0 c =
     let p = c.requires in
-    seek-none _ _ _ _ p.1 _ _ (held (goal.at.returns-then-version-eq0 c).Else-not-holds_table _ c.newest-seen.ensures c.if-version-eq0.true
+    seek-none _ _ _ _ p.1 _ _ (held (goal.at.returns-then-version-eq0 c).Else-not-holds_table) _ c.newest-seen.ensures c.if-version-eq0.true
 
 pub returns : goal.returns
 returns c =
     let p = c.requires in
-    seek_found _ _ _ _ p.1 _ _ (held (goal.at.returns c).Else-not-holds_table _ c.newest-seen.ensures c.if-version-eq0.false _ c.found_at.ensures
+    seek_found _ _ _ _ p.1 _ _ (held (goal.at.returns c).Else-not-holds_table) _ c.newest-seen.ensures c.if-version-eq0.false _ c.found_at.ensures

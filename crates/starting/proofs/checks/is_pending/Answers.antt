@@ -16,4 +16,4 @@ pub returns-in-Idle : goal.returns-in-Idle
 returns-in-Idle c = idle-not _ c.in-Idle.is
 
 pub returns : goal.returns
-returns c = other-pending _ (λ e. not-idle (ap (tag_of the_type) e) c.in_default.keys2)
+returns c = other-pending _ (λ e. not-idle (ap (tag_of the_type) e) c.in_default.in_default-own.keys2)

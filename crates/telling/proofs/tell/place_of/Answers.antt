@@ -1,4 +1,5 @@
 -- `telling::tell::place_of` meets its contract: a law for each return, at the tests that led there, for every work buffer of that length.
+use mathlib.Core.Bool.{not}
 use mathlib.Core.Path.{◌≡◌, sym, ◌∙◌, ap}
 use mathlib.Core.List.{List}
 use Prim.Native.Nat.{ℕ}
@@ -35,11 +36,11 @@ returns-then-work-rec c = place-refused _ _ _ _ _ (λ w e. tell-short _ (edition
 
 pub returns-then-to-eq0 : goal.returns-then-to-eq0
 returns-then-to-eq0 c =
-    place-refused _ _ _ _ _ (λ w e. tell_none _ (edition-laws _) c.args.rec c.args.area.now w c.requires (omega (arith, e, c.if-work-rec.false)) (left_is (goal.at.returns-then-to-eq0 c).After-aim_of-aim c.if-to-eq0.true)
+    place-refused _ _ _ _ _ (λ w e. tell_none _ (edition-laws _) c.args.rec c.args.area.now w c.requires (omega (arith, e, c.if-work-rec.false)) (left_is (goal.at.returns-then-to-eq0 c).After-aim_of-aim) c.if-to-eq0.true)
 
 pub returns-then-not-aim : goal.returns-then-not-aim
 returns-then-not-aim c =
-    place-refused _ _ _ _ _ (λ w l. tell-unfit _ (edition-laws _) c.args.rec c.args.area.now w c.requires (omega (arith, l, c.if-work-rec.false)) (left_is (goal.at.returns-then-not-aim c).After-aim_of-aim c.if-to-eq0.false (agrees-is (goal.at.returns-then-not-aim c).After-aim_of-aim c.if-not-aim.true)
+    place-refused _ _ _ _ _ (λ w l. tell-unfit _ (edition-laws _) c.args.rec c.args.area.now w c.requires (omega (arith, l, c.if-work-rec.false)) (left_is (goal.at.returns-then-not-aim c).After-aim_of-aim) c.if-to-eq0.false (agrees-is (goal.at.returns-then-not-aim c).After-aim_of-aim) (ap not c.if-not-aim.true))
 
 pub next_place-requires : goal.next_place-requires
 next_place-requires c = target_first _ _ _ (to_is (goal.at.next_place-requires c).After-aim_of-aim)
@@ -58,7 +59,7 @@ overflow_cast-result c =
     let l = length-replicate {A = ℕ} c.args.work 0 in
     record {
       fits =
-          tell-place _ (edition-laws _) c.args.rec c.args.area.now w c.requires (omega (arith, l, c.if-work-rec.false)) (left_is (goal.at.overflow_cast-result c).After-aim_of-aim c.if-to-eq0.false (agrees-is (goal.at.overflow_cast-result c).After-aim_of-aim c.if-not-aim.false
+          tell-place _ (edition-laws _) c.args.rec c.args.area.now w c.requires (omega (arith, l, c.if-work-rec.false)) (left_is (goal.at.overflow_cast-result c).After-aim_of-aim) c.if-to-eq0.false (agrees-is (goal.at.overflow_cast-result c).After-aim_of-aim) (ap not c.if-not-aim.false)
           (next-is (goal.at.overflow_cast-result c).After-next_place w l) _ _ (ap (filled w) c.in-At.is);
     }
 
@@ -74,7 +75,7 @@ unfolding filled
 returns-in-Bad c =
     place-refused _ _ _ _ _
     (λ w l.
-    tell-nowhere _ (edition-laws _) c.args.rec c.args.area.now w c.requires (omega (arith, l, c.if-work-rec.false)) (left_is (goal.at.returns-in-Bad c).After-aim_of-aim c.if-to-eq0.false (agrees-is (goal.at.returns-in-Bad c).After-aim_of-aim c.if-not-aim.false
+    tell-nowhere _ (edition-laws _) c.args.rec c.args.area.now w c.requires (omega (arith, l, c.if-work-rec.false)) (left_is (goal.at.returns-in-Bad c).After-aim_of-aim) c.if-to-eq0.false (agrees-is (goal.at.returns-in-Bad c).After-aim_of-aim) (ap not c.if-not-aim.false)
     (next-is (goal.at.returns-in-Bad c).After-next_place w l) (ap (filled w) c.in-Bad.is))
 
 pub returns-in-At : goal.returns-in-At
@@ -82,6 +83,6 @@ unfolding filled
 returns-in-At c =
     place-told _ _ _ _ _ _ _
     (λ w l.
-    tell-at _ (edition-laws _) c.args.rec c.args.area.now w c.requires (omega (arith, l, c.if-work-rec.false)) (left_is (goal.at.returns-in-At c).After-aim_of-aim c.if-to-eq0.false (agrees-is (goal.at.returns-in-At c).After-aim_of-aim c.if-not-aim.false
+    tell-at _ (edition-laws _) c.args.rec c.args.area.now w c.requires (omega (arith, l, c.if-work-rec.false)) (left_is (goal.at.returns-in-At c).After-aim_of-aim) c.if-to-eq0.false (agrees-is (goal.at.returns-in-At c).After-aim_of-aim) (ap not c.if-not-aim.false)
     (next-is (goal.at.returns-in-At c).After-next_place w l) _ _ (ap (filled w) c.in-At.is))
     (copies-slot _ _ _ _ _ _ _ _ _ _ _ (sym c.next_place.ensures ∙ c.in-At.is)).1

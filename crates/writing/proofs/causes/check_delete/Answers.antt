@@ -1,4 +1,6 @@
 -- `writing::causes::check_delete` meets its contract: a law for each return.
+use mathlib.Core.Path.{ap}
+use mathlib.Core.Bool.{not}
 use mathlib.Core.Path.{◌≡◌, refl, sym, ◌∙◌}
 use lib.ListN.{length}
 use Rattle.model.specs.Causes.{first_cause}
@@ -19,7 +21,7 @@ first c = sym c.in-Passed.is ∙ c.check_first.ensures
 pub returns-then-not-fits_lent : goal.returns-then-not-fits_lent
 returns-then-not-fits_lent c =
     let a = c.args in
-    delete-first _ _ _ _ _ _ _ (first-bad _ a.rec (record { area = length a.area.now; index = length a.index.now; work = a.work }) a.tables a.key c.fits_lent.ensures c.if-not-fits_lent.true)
+    delete-first _ _ _ _ _ _ _ (first-bad _ a.rec (record { area = length a.area.now; index = length a.index.now; work = a.work }) a.tables a.key c.fits_lent.ensures (ap not c.if-not-fits_lent.true))
 
 pub check_first-requires : goal.check_first-requires
 check_first-requires c = sym c.fits_lent.ensures ∙ c.if-not-fits_lent.false

@@ -53,11 +53,11 @@ returns-in-Refused c = write-first _ _ _ _ _ _ _ _ (sym c.in-Refused.is ∙ c.ch
 
 pub returns-in-Refused-check_expected : goal.returns-in-Refused-check_expected
 returns-in-Refused-check_expected c =
-    write-expected _ _ _ _ _ _ c.args.value (first (goal.at.returns-in-Refused-check_expected c).In-Passed _ c.object_kind.ensures c.if-object_kind-eq0.false _
+    write-expected _ _ _ _ _ _ c.args.value (first (goal.at.returns-in-Refused-check_expected c).In-Passed) _ c.object_kind.ensures c.if-object_kind-eq0.false _
     (rw c.find-presence.ensures at (sym c.in-Refused-check_expected.is ∙ c.check_expected.ensures))
 
 pub returns-in-Passed-check_expected : goal.returns-in-Passed-check_expected
 returns-in-Passed-check_expected c =
-    write-entry _ _ _ _ _ _ _ (first (goal.at.returns-in-Passed-check_expected c).In-Passed _ c.object_kind.ensures c.if-object_kind-eq0.false _ (sized (goal.at.returns-in-Passed-check_expected c).After-head_size)
+    write-entry _ _ _ _ _ _ _ (first (goal.at.returns-in-Passed-check_expected c).In-Passed) _ c.object_kind.ensures c.if-object_kind-eq0.false _ (sized (goal.at.returns-in-Passed-check_expected c).After-head_size)
     (rw c.find-presence.ensures at (sym c.in-Passed-check_expected.is ∙ c.check_expected.ensures))
     (rw c.find-presence.ensures at c.check_entry.ensures)

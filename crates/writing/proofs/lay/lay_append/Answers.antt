@@ -25,7 +25,7 @@ fit c =
 
 pub commit_stores-left-requires : goal.commit_stores-left-requires
 commit_stores-left-requires c =
-    omega (arith, fit (goal.at.commit_stores-left-requires c).Start, sized (goal.at.commit_stores-left-requires c).After-head_size
+    omega (arith, fit (goal.at.commit_stores-left-requires c).Start, sized (goal.at.commit_stores-left-requires c).After-head_size)
 
 pub overflow_cast-left : goal.overflow_cast-left
 overflow_cast-left c =
