@@ -169,8 +169,8 @@ module _ (E : Editions) (L : Layout) (laws : OperationLaws L) (n s : ℕ) where
           cause-skip (when (record_bad L r (read_lengths area cells)) BadRecord) _ (ap not fits) ∙
           cause-first (when (outside_tables v k) OutsideTables) (when (key_absent (log_now area r) k) Absent ∷ []) (ap not out)
 
-      pub read_answer : holds_table v k.table ≡ true → (K : Layout) × Among E K × (read_answer cause (present (log_now area r) k) ≡ book_answer K x)
-      read_answer held =
+      pub read_answer_lem : holds_table v k.table ≡ true → (K : Layout) × Among E K × (read_answer cause (present (log_now area r) k) ≡ book_answer K x)
+      read_answer_lem held =
           let (K, its, answer) =
           present-answer k (present (log_now area r) k) x same own (λ y q. among y (present-in (log_now area r) k y q)) in
           (K, its, ap (λ (c : Option Refusal). read_answer c (present (log_now area r) k)) (only-absent held) ∙ answer)

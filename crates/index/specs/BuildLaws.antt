@@ -112,6 +112,7 @@ module _ (area : List ℕ) (S map : ℕ) where
 
   listed-to : (order : List ℕ) (i : ℕ) → In i order → in_log (length area) S map i ≡ true → (x : Placed) → In x (slot_entries (layout_in (segment_of area S i)) area S i) → In x (listed area S map order)
   unfolding listed
+  listed-to [] i p e x m = elim p [ ]
   listed-to (j ∷ order) i (Memᴰ.head q) e x m =
       Memᴰ.append_left (listed area S map order)
       (subst (λ (k : ℕ). In x (pick (in_log (length area) S map k) (slot_entries (layout_in (segment_of area S k)) area S k) [])) q

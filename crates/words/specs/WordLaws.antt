@@ -4,7 +4,7 @@ use Rattle.std.proofs.Math.Path.{sym, ap}
 use Rattle.std.proofs.Common.{◌∙◌, arith, take-append-drop, length-drop, length-append, drop-cons, length-take-le, take-add, take_at, drop-set-lt}
 use mathlib.Core.List.{List, [], ◌∷◌, ◌++◌, append-nil}
 use Rattle.std.proofs.Math.Option
-use Rattle.std.proofs.Math.Option.{Option, Option·elim}
+use Rattle.std.proofs.Math.Option.{Option, Option-elim}
 use Rattle.std.proofs.Math.ListN.{length, set, take, drop, length-set}
 use Rattle.std.proofs.Math.Seq.{sets, length-sets}
 use Rattle.std.proofs.lemmas.List.Edits.{sets-eq}
@@ -97,18 +97,18 @@ unfolding edition_fits layout_numbered is_none pick
 edition-none e a b = rw (ne_eqb e 1 a, ne_eqb e 2 b)
 
 pub second-of : (e : ℕ) → e ≡ 2 → edition_of e ≡ edition2
-unfolding edition_of layout_numbered pick Option·elim
+unfolding edition_of layout_numbered pick Option-elim
 second-of e q = rw q
 
 pub first_of : (e : ℕ) → (e ≡ 2 → ⊥) → edition_of e ≡ edition1
-unfolding edition_of layout_numbered pick Option·elim
+unfolding edition_of layout_numbered pick Option-elim
 first_of zero q = refl
 first_of (suc zero) q = refl
 first_of (suc (suc e)) q = rw (ne_eqb (suc (suc e)) 1 (λ p. omega arith), ne_eqb (suc (suc e)) 2 q)
 
 -- the number of an edition is had back from the edition, and the edition from its number
 edition-number : (e : ℕ) → edition_fits e ≡ true → number_of_layout (edition_of e) ≡ e
-unfolding edition_of layout_numbered number_of_layout pick Option·elim
+unfolding edition_of layout_numbered number_of_layout pick Option-elim
 edition-number zero f =
     let low : 1 ≤ 0 = leb-true 1 0 (both_left (leb 1 0) (leb 0 2) (sym (edition-between 0) ∙ f)) in
     absurd (omega arith)
@@ -120,7 +120,7 @@ edition-number (suc (suc (suc e))) f =
     absurd (omega arith)
 
 number-edition : (L : Layout) → edition_of (number_of_layout L) ≡ L
-unfolding edition_of Option·elim
+unfolding edition_of Option-elim
 number-edition L = ap (λ (o : Option Layout). Option.get_or o edition1) (numbered-layout L)
 
 number_fits : (L : Layout) → edition_fits (number_of_layout L) ≡ true

@@ -16,7 +16,7 @@ loop-letters-preserved c =
     let o = c.loop-letters in
     let a = c.args in (
       omega arith,
-      shorter-turn a.out.now o.out c.put_length-end.new.0 a.at o.end c.put_length-end.result o.letters o.invariant.1 c.put_length-end.ensures.0,
+      shorter-turn a.out.now o.out c.put_length-end.new.out a.at o.end c.put_length-end.result o.letters o.invariant.1 c.put_length-end.ensures.0,
       omega (arith, c.put_length-end.ensures.1, five-more o.letters),
     )
 

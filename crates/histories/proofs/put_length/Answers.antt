@@ -16,7 +16,7 @@ loop-number-preserved c =
     let o = c.loop-number in
     let a = c.args in (
       omega arith,
-      length-turn a.out.now o.out c.put_legal-end.new.0 a.at o.end c.put_legal-end.result a.letters o.number o.invariant.1 c.put_legal-end.ensures.0,
+      length-turn a.out.now o.out c.put_legal-end.new.out a.at o.end c.put_legal-end.result a.letters o.number o.invariant.1 c.put_legal-end.ensures.0,
       omega (arith, c.put_legal-end.ensures.1),
     )
 

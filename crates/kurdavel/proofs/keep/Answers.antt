@@ -6,10 +6,15 @@ pub encode-requires : goal.encode-requires
 encode-requires c = c.requires c.if-ok.true
 
 pub returns-then-ok : goal.returns-then-ok
-returns-then-ok c = (
-  kept_on _ _ c.args.rec c.if-ok.true c.encode.ensures.put,
-  λ ok. c.encode.ensures.long,
-)
+returns-then-ok c =
+    record {
+      kept = kept_on _ _ c.args.rec c.if-ok.true c.encode.ensures.put;
+      long = λ ok. c.encode.ensures.long;
+    }
 
 pub returns-else-ok : goal.returns-else-ok
-returns-else-ok c = (kept_off _ _ c.if-ok.false, λ ok. never_both ok c.if-ok.false)
+returns-else-ok c =
+    record {
+      kept = kept_off _ _ c.if-ok.false;
+      long = λ ok. never_both ok c.if-ok.false;
+    }

@@ -1,4 +1,6 @@
 -- `kurdavel::kurdavel_read` meets its contract.
+use mathlib.Core.Path.{ap}
+use mathlib.Core.Bool.{not}
 use mathlib.Core.Bool.{true}
 use mathlib.Core.Path.{◌≡◌, refl, sym, ◌∙◌}
 use lib.ListN.{length}
@@ -24,17 +26,12 @@ held c = sym c.holds_table.ensures ∙ c.if-not-holds_table.false
 
 -- what the look says, by the record that the words say
 looked : (c : After-look_at)
-    → let a =
-    let held : let a = c.args in
-    holds_table (record { first = a.first; last = a.last }) a.table ≡ true = sym c.holds_table.ensures ∙ c.if-not-holds_table.false in
-    let fit : let a = c.args in
-    fits_lent (decoded a.words.now).rec.edition (decoded a.words.now).rec (length a.area.now) (length a.index.now) ≡ true = sym c.fits.ensures ∙ c.if-not-fits.false in
-    c.args in
+    → let a = c.args in
     c.look_at.result ≡
     looked_up (decoded a.words.now).rec.edition (decoded a.words.now).rec a.area.now a.index.now (record { first = a.first; last = a.last })
     (record { table = a.table; key = a.key })
 looked c =
-    looked-found _ _ _ _ _ (fit) (held) c.search-found.ensures c.look_at.ensures
+    looked-found _ _ _ _ _ ((sym c.fits.ensures ∙ (ap not c.if-not-fits.false))) ((sym c.holds_table.ensures ∙ (ap not c.if-not-holds_table.false))) c.search-found.ensures c.look_at.ensures
 
 pub returns-then-not-fits : goal.returns-then-not-fits
 unfolding told_by

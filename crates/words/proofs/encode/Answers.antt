@@ -9,7 +9,8 @@ copy_words-requires c = omega (arith, slice-aggregate-copy-words c)
 
 pub returns : goal.returns
 returns c =
-    let a = c.args in (
-      in_order a.words.now _ _ _ a.rec c.put_numbers.ensures c.encode_pending.ensures c.copy_words.ensures,
-      sym (slice-aggregate-copy-words c.before.before.before),
-    )
+    let a = c.args in 
+    record {
+      put = in_order a.words.now _ _ _ a.rec c.put_numbers.ensures c.encode_pending.ensures c.copy_words.ensures;
+      long = sym (slice-aggregate-copy-words c.before.before.before);
+    }

@@ -31,9 +31,8 @@ bounds-words-16 c = omega (arith, record-long _ (are-record (goal.at.bounds-word
 -- what is found of the front
 front-is : (k : After-front_fits) → k.front_fits.result ≡ front_good k.front_in-front.result.edition k.front_in-front.result
 front-is k =
-    let are-record : is_record k.args.words.now ≡ true = sym k.is_record.ensures ∙ k.if-not-is_record.false in
     front-tagged _ _ k.args.area k.args.index
-    (are-record) k.front_in-front.ensures k.front_fits.ensures
+    ((sym k.is_record.ensures ∙ (ap not k.if-not-is_record.false))) k.front_in-front.ensures k.front_fits.ensures
 
 pub returns-then-not-front_fits : goal.returns-then-not-front_fits
 returns-then-not-front_fits c =
@@ -42,11 +41,8 @@ returns-then-not-front_fits c =
 
 -- what is known once the front is tested
 within : (c : Else-not-front_fits) → Limits c.front_in-front.result
-within c =
-    let are-record : is_record c.args.words.now ≡ true = sym c.is_record.ensures ∙ c.if-not-is_record.false in
-    let front-is : c.front_fits.result ≡ front_good c.front_in-front.result.edition c.front_in-front.result = front-tagged _ _ c.args.area c.args.index
-    (are-record) c.front_in-front.ensures c.front_fits.ensures in
-    front-limits _ _ (sym (front-is) ∙ c.if-not-front_fits.false)
+within c = front-limits _ _ (sym ((front-tagged _ _ c.args.area c.args.index
+    ((sym c.is_record.ensures ∙ (ap not (ap not c.if-not-is_record.false)))) c.front_in-front.ensures c.front_fits.ensures)) ∙ c.if-not-front_fits.false)
 
 pub lengths_own-requires : goal.lengths_own-requires
 lengths_own-requires c = omega (arith, within c)

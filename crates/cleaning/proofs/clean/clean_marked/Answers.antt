@@ -15,7 +15,7 @@ use Rattle.cleaning.proofs.clean.clean_marked.Goals.{After-measure-count}
 -- what is chosen is what is kept
 same : (c : After-measure-count)
     → let a = c.args in
-    chosen_bytes a.into a.area.now c.measure-count.new.1.1.1.1.0 a.split
+    chosen_bytes a.into a.area.now c.measure-count.new.chosen a.split
     ≡ kept_bytes a.into a.area.now a.index.now a.marks.now a.split
 same c =
     let a = c.args in

@@ -1,4 +1,5 @@
 -- `cleaning::copy::copy_victim` meets its contract.
+use mathlib.Core.Bool.{not}
 use mathlib.Core.Path.{◌≡◌, sym, ◌∙◌, ap}
 use native.Mathlib.Omega.{arith}
 use lib.ListN.{length}
@@ -28,11 +29,7 @@ own c =
 
 -- in a slot of the new head's edition nothing is rewritten
 alike : (c : Then-same_edition)
-    → let a =
-    let own : let a = c.args in
-    chosen_slot c.edition_of-edition.result a.into a.area.now a.chosen.now a.split.size a.slot
-    ≡ chosen_part a.into a.area.now a.chosen.now a.split a.slot = chosen-victim _ _ _ _ _ _ (c.edition_of-edition.ensures ∙ ap layout_in c.cut.ensures) (sym c.is_named.ensures ∙ c.if-not-is_named.false) in
-    c.args in
+    → let a = c.args in
     let e = c.edition_of-edition.result in
     chosen_slot e e a.area.now a.chosen.now a.split.size a.slot ≡ chosen_part a.into a.area.now a.chosen.now a.split a.slot
 alike c =
@@ -40,7 +37,7 @@ alike c =
     let e = c.edition_of-edition.result in
     ap (λ (W : Layout). chosen_slot e W a.area.now a.chosen.now a.split.size a.slot)
     (same_layout_lem e a.into (sym c.same_edition.ensures ∙ c.if-same_edition.true))
-    ∙ own
+    ∙ (chosen-victim _ _ _ _ _ _ (c.edition_of-edition.ensures ∙ ap layout_in c.cut.ensures) (sym c.is_named.ensures ∙ (ap not c.if-not-is_named.false)))
 
 pub copy_runs-requires : goal.copy_runs-requires
 copy_runs-requires c =

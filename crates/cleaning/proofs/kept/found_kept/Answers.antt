@@ -1,5 +1,6 @@
 -- `cleaning::kept::found_kept` meets its contract.
 use native.Mathlib.Omega.{arith}
+use borrow.Author.Tests.{not-true, not-false}
 use Rattle.cleaning.specs.KeptLaws.{kept-older, kept-object, kept-tombstone, kept_free, kept_full}
 use Rattle.cleaning.proofs.kept.found_kept.Goals as goal
 
@@ -14,12 +15,12 @@ returns-then-cells-i c = kept-older _ _ _ _ _ _ c.in-At.is c.if-cells-i.true
 
 pub returns-then-not-header : goal.returns-then-not-header
 returns-then-not-header c =
-    kept-object _ _ _ _ _ _ c.in-At.is c.if-cells-i.false c.if-not-header.true
+    kept-object _ _ _ _ _ _ c.in-At.is c.if-cells-i.false (not-true _ c.if-not-header.true)
 
 pub returns-else-not-header : goal.returns-else-not-header
 returns-else-not-header c =
     kept-tombstone _ _ _ _ _ _ c.in-At.is c.if-cells-i.false
-    c.if-not-header.false c.is_marked.ensures
+    (not-false _ c.if-not-header.false) c.is_marked.ensures
 
 pub returns-in-Free : goal.returns-in-Free
 returns-in-Free c = kept_free _ _ _ _ _ _ c.in-Free.is

@@ -26,22 +26,18 @@ place c =
 
 -- the run that begins with a chosen entry
 the-run : (k : After-run_behind-at)
-    → let a =
-    let met : Meets k.args.edition k.cut-s.result.now k.loop-header.at k.in-Entry.header = meets _ _ _ _ k.next.ensures _ k.in-Entry.is in
-    k.args in
+    → let a = k.args in
     Run a.edition a.area.now a.chosen.now a.split.size a.slot k.cut-s.result.now k.loop-header.at k.run_behind-at.result
 the-run k =
-    run-first _ _ _ _ _ _ _ (met) _ k.behind-at.ensures _ (run-as (sym k.cut-s.ensures) k.run_behind-at.ensures)
+    run-first _ _ _ _ _ _ _ ((meets _ _ _ _ k.next.ensures _ k.in-Entry.is)) _ k.behind-at.ensures _ (run-as (sym k.cut-s.ensures) k.run_behind-at.ensures)
     (sym k.is_chosen.ensures ∙ k.if-is_chosen.true)
 
 -- it lies within the slot, which lies in the area
 lies : (k : After-run_behind-at)
-    → let a =
-    let long : length k.cut-s.result.now ≡ k.args.split.size = slot-long k.requires.chosen_fits.slots _ k.requires.slot_lt_slots _ k.cut-s.ensures in
-    k.args in
+    → let a = k.args in
     a.slot * a.split.size + k.run_behind-at.result ≤ length a.area.now
 lies k =
-    omega (arith, (the-run k).high, long, slot-lies k.requires.chosen_fits.slots k.args.slot k.requires.slot_lt_slots)
+    omega (arith, (the-run k).high, (slot-long k.requires.chosen_fits.slots _ k.requires.slot_lt_slots _ k.cut-s.ensures), slot-lies k.requires.chosen_fits.slots k.args.slot k.requires.slot_lt_slots)
 
 -- and the work buffer has room for it
 room : (k : After-run_behind-at)

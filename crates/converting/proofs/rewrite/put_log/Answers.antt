@@ -52,10 +52,10 @@ own c =
 
 pub put_slot-requires : goal.put_slot-requires
 put_slot-requires c =
-    let a = c.args in let p = (c.requires.shape, (c.requires.n_value, c.requires.target_len)) in 
+    let a = c.args in 
     record {
-      part_value = ((own (goal.at.put_slot-requires c).After-cut).sound, digest-inside p.0.0 _ c.loop-i-test.true _ c.cut.ensures);
-      part_len_bound = part-fits a.to (views_of a.source.now a.s) (named a.map) a.s _ (own (goal.at.put_slot-requires c).After-cut) _ p.1.0 c.loop-i-test.true
+      part_value = ((own (goal.at.put_slot-requires c).After-cut).sound, digest-inside c.requires.shape.0 _ c.loop-i-test.true _ c.cut.ensures);
+      part_len_bound = part-fits a.to (views_of a.source.now a.s) (named a.map) a.s _ (own (goal.at.put_slot-requires c).After-cut) _ c.requires.n_value c.loop-i-test.true
             (sym c.is_named.ensures ∙ c.if-not-is_named.false);
       s_in_bounds = room (goal.at.put_slot-requires c).In-loop-i;
     }

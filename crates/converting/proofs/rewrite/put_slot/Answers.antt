@@ -27,35 +27,33 @@ overflow_add-start c = let a = c.args in omega (arith, length-part_bytes a.from 
 -- what the digest and the entries leave
 wrote : (c : After-write_digest)
     → let a = c.args in
-    c.write_digest.new.1.0 ≡ sets a.target.now a.start (encoded_digest a.to (digest_of a.from a.part.now))
+    c.write_digest.new.s ≡ sets a.target.now a.start (encoded_digest a.to (digest_of a.from a.part.now))
 wrote c =
     let a = c.args in
     c.write_digest.ensures ∙ ap (λ (d : Digest). sets a.target.now a.start (encoded_digest a.to d)) c.digest.ensures
 
 put : (c : After-put_entries-end)
     → let a = c.args in
-    Copied (all_encoded a.to (entries_of a.from a.part.now)) c.write_digest.new.1.0 (a.start + digest_size a.to)
-    c.put_entries-end.new.1.1.1.0 c.put_entries-end.result
+    Copied (all_encoded a.to (entries_of a.from a.part.now)) c.write_digest.new.s (a.start + digest_size a.to)
+    c.put_entries-end.new.target c.put_entries-end.result
 put c = rw c.digest_size.ensures at c.put_entries-end.ensures
 
 pub put_entries-end-requires : goal.put_entries-end-requires
 put_entries-end-requires c =
-    let a = c.args in let p = (c.requires.part_value, (c.requires.part_len_bound, c.requires.s_in_bounds)) in 
+    let a = c.args in 
     record {
-      part_value = p.0.0;
-      part_in_bounds = rw c.digest_size.ensures (entries-room a.from a.to a.part.now a.s a.target.now a.start _ (wrote (goal.at.put_entries-end-requires c).After-write_digest) p.1.0 p.1.1);
+      part_value = c.requires.part_value.0;
+      part_in_bounds = rw c.digest_size.ensures (entries-room a.from a.to a.part.now a.s a.target.now a.start _ (wrote (goal.at.put_entries-end-requires c).After-write_digest) c.requires.part_len_bound c.requires.s_in_bounds);
     }
 
 pub clear-requires : goal.clear-requires
 clear-requires c =
     let a = c.args in
-    let p = (c.requires.part_value, (c.requires.part_len_bound, c.requires.s_in_bounds)) in
-    let r = zeros-room a.from a.to a.part.now a.s a.target.now a.start _ (wrote (goal.at.clear-requires c).After-write_digest) p.1.0 p.1.1 _ _ (put (goal.at.clear-requires c).After-put_entries-end) in
+    let r = zeros-room a.from a.to a.part.now a.s a.target.now a.start _ (wrote (goal.at.clear-requires c).After-write_digest) c.requires.part_len_bound c.requires.s_in_bounds _ _ (put (goal.at.clear-requires c).After-put_entries-end) in
     (omega arith, omega arith)
 
 pub returns : goal.returns
 returns c =
     let a = c.args in
-    let p = (c.requires.part_value, (c.requires.part_len_bound, c.requires.s_in_bounds)) in
-    slot-put a.from a.to a.part.now a.s a.target.now a.start _ (wrote (goal.at.returns c).After-write_digest) p.1.0 p.1.1 _ _ (put (goal.at.returns c).After-put_entries-end) _
+    slot-put a.from a.to a.part.now a.s a.target.now a.start _ (wrote (goal.at.returns c).After-write_digest) c.requires.part_len_bound c.requires.s_in_bounds _ _ (put (goal.at.returns c).After-put_entries-end) _
     c.clear.ensures

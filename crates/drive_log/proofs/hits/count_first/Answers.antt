@@ -24,9 +24,7 @@ overflow_add-at c = omega (arith, met (goal.at.overflow_add-at c).In-Entry)
 turned : (c : After-one-count)
     → Counting edition1 c.args.part.now c.args.table.now (c.loop-header.at + c.in-Entry.header.length)
     (c.loop-header.count + c.one-count.result)
-turned c =
-    let met : Meets edition1 c.args.part.now c.loop-header.at c.in-Entry.header.version.0 c.in-Entry.header.length = meets _ _ _ _ c.next.ensures _ c.in-Entry.is in
-    count_turn _ _ _ _ _ c.loop-header.invariant (met) _ c.is_suspect.ensures _ c.one-count.ensures
+turned c = count_turn _ _ _ _ _ c.loop-header.invariant ((meets _ _ _ _ c.next.ensures _ c.in-Entry.is)) _ c.is_suspect.ensures _ c.one-count.ensures
 
 pub overflow_add-count : goal.overflow_add-count
 overflow_add-count c = omega (arith, met (goal.at.overflow_add-count c).In-Entry, turned c)

@@ -21,7 +21,7 @@ loop-i-smaller c = omega (arith, c.loop-i-test.true)
 pub loop-i-preserved : goal.loop-i-preserved
 loop-i-preserved c = (
   omega (arith, c.loop-i-test.true),
-  c.set_mark.auto.0 ∙ c.loop-i.invariant.1,
+  c.set_mark.auto.marks ∙ c.loop-i.invariant.1,
   marked_turn _ _ _ _ c.loop-i.invariant.2 c.set_mark.ensures,
 )
 

@@ -1,5 +1,6 @@
 use mathlib.Core.Path.{◌≡◌, refl, sym, ◌∙◌}
 use native.Mathlib.Omega.{arith}
+use borrow.Author.Tests.{not-true, not-false}
 use Rattle.drive_log.specs.Shape.{inside}
 use Rattle.drive_log.specs.Surveys.{survey-none, survey-skip, survey-take, survey-end, survey-damaged}
 use Rattle.drive_log.proofs.survey.survey.Goals as goal
@@ -36,7 +37,7 @@ survey_slot-passed-requires c =
 pub returns-then-not-passed : goal.returns-then-not-passed
 returns-then-not-passed c =
     survey-damaged _ _ _ _ c.loop-i-test.true (sym c.is_named.ensures ∙ c.if-not-is_named.false) _ _ _ _
-    c.survey_slot-passed.ensures c.if-not-passed.true
+    c.survey_slot-passed.ensures (not-true _ c.if-not-passed.true)
 
 pub loop-i-smaller : goal.loop-i-smaller
 loop-i-smaller c = omega arith
@@ -44,7 +45,7 @@ loop-i-smaller c = omega arith
 pub loop-i-preserved : goal.loop-i-preserved
 loop-i-preserved c = (
   omega arith,
-  survey-take _ _ _ _ _ _ _ c.loop-i.invariant.1 _ _ _ _ c.survey_slot-passed.ensures c.if-not-passed.false,
+  survey-take _ _ _ _ _ _ _ c.loop-i.invariant.1 _ _ _ _ c.survey_slot-passed.ensures (not-false _ c.if-not-passed.false),
 )
 
 pub returns : goal.returns

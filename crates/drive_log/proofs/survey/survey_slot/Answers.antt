@@ -7,7 +7,6 @@ use Rattle.drive_log.proofs.survey.survey_slot.Goals as goal
 pub returns : goal.returns
 returns c =
     let a = c.args in
-    let pre = (c.requires.s_in_bounds, (c.requires.slot_value, c.requires.told)) in
     let cut = c.cut-part.ensures in
     let told = c.edition_of.ensures in
-    slot-told _ _ _ _ _ (sym (own-layout a.area.now a.s a.slot _ cut _ told)) (sym (own-scan a.area.now a.s a.slot _ cut _ told)) pre.1.0 _ _ _ pre.1.1 _ _ _ _ c.survey_part.ensures
+    slot-told _ _ _ _ _ (sym (own-layout a.area.now a.s a.slot _ cut _ told)) (sym (own-scan a.area.now a.s a.slot _ cut _ told)) c.requires.slot_value _ _ _ c.requires.told _ _ _ _ c.survey_part.ensures

@@ -17,9 +17,7 @@ pass_over-low-requires-2 c =
     }
 
 left-2 : (c : After-pass_over-low-2) → Between c.args.table.now c.args.version.0 c.pass_over-low-2.result (c.pass_over-low-2.result + 63)
-left-2 c =
-    let left-1 : Between c.args.table.now c.args.version.0 c.pass_over-low.result (c.pass_over-low.result + 127) = c.pass_over-low.ensures.left 127 _ (omega arith) (omega arith) (between-all _ _ _ (sym c.requires.size)) in
-    c.pass_over-low-2.ensures.left 63 _ (omega arith) (omega arith) (left-1)
+left-2 c = c.pass_over-low-2.ensures.left 63 _ (omega arith) (omega arith) ((c.pass_over-low.ensures.left 127 _ (omega arith) (omega arith) (between-all _ _ _ (sym c.requires.size))))
 
 pub pass_over-low-requires-3 : goal.pass_over-low-requires-3
 pass_over-low-requires-3 c =
@@ -29,10 +27,7 @@ pass_over-low-requires-3 c =
     }
 
 left-3 : (c : After-pass_over-low-3) → Between c.args.table.now c.args.version.0 c.pass_over-low-3.result (c.pass_over-low-3.result + 31)
-left-3 c =
-    let left-1 : Between c.args.table.now c.args.version.0 c.pass_over-low.result (c.pass_over-low.result + 127) = c.pass_over-low.ensures.left 127 _ (omega arith) (omega arith) (between-all _ _ _ (sym c.requires.size)) in
-    let left-2 : Between c.args.table.now c.args.version.0 c.pass_over-low-2.result (c.pass_over-low-2.result + 63) = c.pass_over-low-2.ensures.left 63 _ (omega arith) (omega arith) (left-1) in
-    c.pass_over-low-3.ensures.left 31 _ (omega arith) (omega arith) (left-2)
+left-3 c = c.pass_over-low-3.ensures.left 31 _ (omega arith) (omega arith) ((c.pass_over-low-2.ensures.left 63 _ (omega arith) (omega arith) ((c.pass_over-low.ensures.left 127 _ (omega arith) (omega arith) (between-all _ _ _ (sym c.requires.size))))))
 
 pub pass_over-low-requires-4 : goal.pass_over-low-requires-4
 pass_over-low-requires-4 c =
@@ -42,11 +37,7 @@ pass_over-low-requires-4 c =
     }
 
 left-4 : (c : After-pass_over-low-4) → Between c.args.table.now c.args.version.0 c.pass_over-low-4.result (c.pass_over-low-4.result + 15)
-left-4 c =
-    let left-1 : Between c.args.table.now c.args.version.0 c.pass_over-low.result (c.pass_over-low.result + 127) = c.pass_over-low.ensures.left 127 _ (omega arith) (omega arith) (between-all _ _ _ (sym c.requires.size)) in
-    let left-2 : Between c.args.table.now c.args.version.0 c.pass_over-low-2.result (c.pass_over-low-2.result + 63) = c.pass_over-low-2.ensures.left 63 _ (omega arith) (omega arith) (left-1) in
-    let left-3 : Between c.args.table.now c.args.version.0 c.pass_over-low-3.result (c.pass_over-low-3.result + 31) = c.pass_over-low-3.ensures.left 31 _ (omega arith) (omega arith) (left-2) in
-    c.pass_over-low-4.ensures.left 15 _ (omega arith) (omega arith) (left-3)
+left-4 c = c.pass_over-low-4.ensures.left 15 _ (omega arith) (omega arith) ((c.pass_over-low-3.ensures.left 31 _ (omega arith) (omega arith) ((c.pass_over-low-2.ensures.left 63 _ (omega arith) (omega arith) ((c.pass_over-low.ensures.left 127 _ (omega arith) (omega arith) (between-all _ _ _ (sym c.requires.size))))))))
 
 pub pass_over-low-requires-5 : goal.pass_over-low-requires-5
 pass_over-low-requires-5 c =
@@ -56,12 +47,7 @@ pass_over-low-requires-5 c =
     }
 
 left-5 : (c : After-pass_over-low-5) → Between c.args.table.now c.args.version.0 c.pass_over-low-5.result (c.pass_over-low-5.result + 7)
-left-5 c =
-    let left-1 : Between c.args.table.now c.args.version.0 c.pass_over-low.result (c.pass_over-low.result + 127) = c.pass_over-low.ensures.left 127 _ (omega arith) (omega arith) (between-all _ _ _ (sym c.requires.size)) in
-    let left-2 : Between c.args.table.now c.args.version.0 c.pass_over-low-2.result (c.pass_over-low-2.result + 63) = c.pass_over-low-2.ensures.left 63 _ (omega arith) (omega arith) (left-1) in
-    let left-3 : Between c.args.table.now c.args.version.0 c.pass_over-low-3.result (c.pass_over-low-3.result + 31) = c.pass_over-low-3.ensures.left 31 _ (omega arith) (omega arith) (left-2) in
-    let left-4 : Between c.args.table.now c.args.version.0 c.pass_over-low-4.result (c.pass_over-low-4.result + 15) = c.pass_over-low-4.ensures.left 15 _ (omega arith) (omega arith) (left-3) in
-    c.pass_over-low-5.ensures.left 7 _ (omega arith) (omega arith) (left-4)
+left-5 c = c.pass_over-low-5.ensures.left 7 _ (omega arith) (omega arith) ((c.pass_over-low-4.ensures.left 15 _ (omega arith) (omega arith) ((c.pass_over-low-3.ensures.left 31 _ (omega arith) (omega arith) ((c.pass_over-low-2.ensures.left 63 _ (omega arith) (omega arith) ((c.pass_over-low.ensures.left 127 _ (omega arith) (omega arith) (between-all _ _ _ (sym c.requires.size))))))))))
 
 pub pass_over-low-requires-6 : goal.pass_over-low-requires-6
 pass_over-low-requires-6 c =
@@ -71,13 +57,7 @@ pass_over-low-requires-6 c =
     }
 
 left-6 : (c : After-pass_over-low-6) → Between c.args.table.now c.args.version.0 c.pass_over-low-6.result (c.pass_over-low-6.result + 3)
-left-6 c =
-    let left-1 : Between c.args.table.now c.args.version.0 c.pass_over-low.result (c.pass_over-low.result + 127) = c.pass_over-low.ensures.left 127 _ (omega arith) (omega arith) (between-all _ _ _ (sym c.requires.size)) in
-    let left-2 : Between c.args.table.now c.args.version.0 c.pass_over-low-2.result (c.pass_over-low-2.result + 63) = c.pass_over-low-2.ensures.left 63 _ (omega arith) (omega arith) (left-1) in
-    let left-3 : Between c.args.table.now c.args.version.0 c.pass_over-low-3.result (c.pass_over-low-3.result + 31) = c.pass_over-low-3.ensures.left 31 _ (omega arith) (omega arith) (left-2) in
-    let left-4 : Between c.args.table.now c.args.version.0 c.pass_over-low-4.result (c.pass_over-low-4.result + 15) = c.pass_over-low-4.ensures.left 15 _ (omega arith) (omega arith) (left-3) in
-    let left-5 : Between c.args.table.now c.args.version.0 c.pass_over-low-5.result (c.pass_over-low-5.result + 7) = c.pass_over-low-5.ensures.left 7 _ (omega arith) (omega arith) (left-4) in
-    c.pass_over-low-6.ensures.left 3 _ (omega arith) (omega arith) (left-5)
+left-6 c = c.pass_over-low-6.ensures.left 3 _ (omega arith) (omega arith) ((c.pass_over-low-5.ensures.left 7 _ (omega arith) (omega arith) ((c.pass_over-low-4.ensures.left 15 _ (omega arith) (omega arith) ((c.pass_over-low-3.ensures.left 31 _ (omega arith) (omega arith) ((c.pass_over-low-2.ensures.left 63 _ (omega arith) (omega arith) ((c.pass_over-low.ensures.left 127 _ (omega arith) (omega arith) (between-all _ _ _ (sym c.requires.size))))))))))))
 
 pub pass_over-low-requires-7 : goal.pass_over-low-requires-7
 pass_over-low-requires-7 c =
@@ -87,14 +67,7 @@ pass_over-low-requires-7 c =
     }
 
 left-7 : (c : After-pass_over-low-7) → Between c.args.table.now c.args.version.0 c.pass_over-low-7.result (c.pass_over-low-7.result + 1)
-left-7 c =
-    let left-1 : Between c.args.table.now c.args.version.0 c.pass_over-low.result (c.pass_over-low.result + 127) = c.pass_over-low.ensures.left 127 _ (omega arith) (omega arith) (between-all _ _ _ (sym c.requires.size)) in
-    let left-2 : Between c.args.table.now c.args.version.0 c.pass_over-low-2.result (c.pass_over-low-2.result + 63) = c.pass_over-low-2.ensures.left 63 _ (omega arith) (omega arith) (left-1) in
-    let left-3 : Between c.args.table.now c.args.version.0 c.pass_over-low-3.result (c.pass_over-low-3.result + 31) = c.pass_over-low-3.ensures.left 31 _ (omega arith) (omega arith) (left-2) in
-    let left-4 : Between c.args.table.now c.args.version.0 c.pass_over-low-4.result (c.pass_over-low-4.result + 15) = c.pass_over-low-4.ensures.left 15 _ (omega arith) (omega arith) (left-3) in
-    let left-5 : Between c.args.table.now c.args.version.0 c.pass_over-low-5.result (c.pass_over-low-5.result + 7) = c.pass_over-low-5.ensures.left 7 _ (omega arith) (omega arith) (left-4) in
-    let left-6 : Between c.args.table.now c.args.version.0 c.pass_over-low-6.result (c.pass_over-low-6.result + 3) = c.pass_over-low-6.ensures.left 3 _ (omega arith) (omega arith) (left-5) in
-    c.pass_over-low-7.ensures.left 1 _ (omega arith) (omega arith) (left-6)
+left-7 c = c.pass_over-low-7.ensures.left 1 _ (omega arith) (omega arith) ((c.pass_over-low-6.ensures.left 3 _ (omega arith) (omega arith) ((c.pass_over-low-5.ensures.left 7 _ (omega arith) (omega arith) ((c.pass_over-low-4.ensures.left 15 _ (omega arith) (omega arith) ((c.pass_over-low-3.ensures.left 31 _ (omega arith) (omega arith) ((c.pass_over-low-2.ensures.left 63 _ (omega arith) (omega arith) ((c.pass_over-low.ensures.left 127 _ (omega arith) (omega arith) (between-all _ _ _ (sym c.requires.size))))))))))))))
 
 pub pass_over-requires : goal.pass_over-requires
 pass_over-requires c =
@@ -104,15 +77,7 @@ pass_over-requires c =
     }
 
 left-8 : (c : After-pass_over) → Between c.args.table.now c.args.version.0 c.pass_over.result (c.pass_over.result + 0)
-left-8 c =
-    let left-1 : Between c.args.table.now c.args.version.0 c.pass_over-low.result (c.pass_over-low.result + 127) = c.pass_over-low.ensures.left 127 _ (omega arith) (omega arith) (between-all _ _ _ (sym c.requires.size)) in
-    let left-2 : Between c.args.table.now c.args.version.0 c.pass_over-low-2.result (c.pass_over-low-2.result + 63) = c.pass_over-low-2.ensures.left 63 _ (omega arith) (omega arith) (left-1) in
-    let left-3 : Between c.args.table.now c.args.version.0 c.pass_over-low-3.result (c.pass_over-low-3.result + 31) = c.pass_over-low-3.ensures.left 31 _ (omega arith) (omega arith) (left-2) in
-    let left-4 : Between c.args.table.now c.args.version.0 c.pass_over-low-4.result (c.pass_over-low-4.result + 15) = c.pass_over-low-4.ensures.left 15 _ (omega arith) (omega arith) (left-3) in
-    let left-5 : Between c.args.table.now c.args.version.0 c.pass_over-low-5.result (c.pass_over-low-5.result + 7) = c.pass_over-low-5.ensures.left 7 _ (omega arith) (omega arith) (left-4) in
-    let left-6 : Between c.args.table.now c.args.version.0 c.pass_over-low-6.result (c.pass_over-low-6.result + 3) = c.pass_over-low-6.ensures.left 3 _ (omega arith) (omega arith) (left-5) in
-    let left-7 : Between c.args.table.now c.args.version.0 c.pass_over-low-7.result (c.pass_over-low-7.result + 1) = c.pass_over-low-7.ensures.left 1 _ (omega arith) (omega arith) (left-6) in
-    c.pass_over.ensures.left 0 _ (omega arith) (omega arith) (left-7)
+left-8 c = c.pass_over.ensures.left 0 _ (omega arith) (omega arith) ((c.pass_over-low-7.ensures.left 1 _ (omega arith) (omega arith) ((c.pass_over-low-6.ensures.left 3 _ (omega arith) (omega arith) ((c.pass_over-low-5.ensures.left 7 _ (omega arith) (omega arith) ((c.pass_over-low-4.ensures.left 15 _ (omega arith) (omega arith) ((c.pass_over-low-3.ensures.left 31 _ (omega arith) (omega arith) ((c.pass_over-low-2.ensures.left 63 _ (omega arith) (omega arith) ((c.pass_over-low.ensures.left 127 _ (omega arith) (omega arith) (between-all _ _ _ (sym c.requires.size))))))))))))))))
 
 pub returns : goal.returns
 returns c = between_done _ _ _ (left-8 c)

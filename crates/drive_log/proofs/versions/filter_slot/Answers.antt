@@ -46,10 +46,10 @@ pass-requires c =
     }
 
 pub shape_of-filter-then-pass : goal.shape_of-filter-then-pass
-shape_of-filter-then-pass c = c.pass.auto.1.1.1.1.0 ∙ c.loop-header.invariant.size ∙ sym c.requires.entering.size
+shape_of-filter-then-pass c = c.pass.auto.filter ∙ c.loop-header.invariant.size ∙ sym c.requires.entering.size
 
 pub shape_of-table-then-pass : goal.shape_of-table-then-pass
-shape_of-table-then-pass c = c.pass.auto.1.1.1.1.1.0 ∙ c.loop-header.invariant.filtered.suspects.sorted.size ∙ sym c.requires.entering.filtered.suspects.sorted.size
+shape_of-table-then-pass c = c.pass.auto.table ∙ c.loop-header.invariant.filtered.suspects.sorted.size ∙ sym c.requires.entering.filtered.suspects.sorted.size
 
 pub returns-then-pass : goal.returns-then-pass
 returns-then-pass c = slot-shared _ _ (c.pass.ensures.suspecting.shared c.if-pass.true)

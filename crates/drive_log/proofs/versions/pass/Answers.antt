@@ -16,7 +16,15 @@ held : (c : Start) → Suspects (log c) c.args.table.now
 held c = c.requires.suspects
 
 pub returns-then-not-mark : goal.returns-then-not-mark
-returns-then-not-mark c = (suspect-kept _ _ (held (goal.at.returns-then-not-mark c).Start) _ _ (λ e. absurd (clash _ e (sym c.mark.ensures.was ∙ c.if-not-mark.true))), c.mark.ensures.now)
+returns-then-not-mark c =
+    record {
+      suspecting = suspect-kept _ _ (held (goal.at.returns-then-not-mark c).Start) _ _ (λ e. absurd (clash _ e (sym c.mark.ensures.was ∙ c.if-not-mark.true)));
+      now = c.mark.ensures.now;
+    }
 
 pub returns : goal.returns
-returns c = (suspecting-if _ _ _ _ _ _ c.suspect.ensures, c.mark.ensures.now)
+returns c =
+    record {
+      suspecting = suspecting-if _ _ _ _ _ _ c.suspect.ensures;
+      now = c.mark.ensures.now;
+    }

@@ -47,7 +47,7 @@ loop-i-smaller c = omega arith
 pub loop-i-preserved : goal.loop-i-preserved
 loop-i-preserved c = (
   omega arith,
-  c.filter_slot.auto.1.1.1.1.1.0 ∙ c.loop-i.invariant.1,
+  c.filter_slot.auto.filter ∙ c.loop-i.invariant.1,
   c.filter_slot.ensures.filtered c.if-filter_slot.false,
 )
 

@@ -37,16 +37,12 @@ lies c =
 
 short : (c : After-measure_entry-total) → c.measure_entry-total.result ≤ 2 * c.in-Entry.header.length
 short c =
-    let met : Meets c.args.edition c.cut-s.result.now c.loop-header.at c.in-Entry.header = meets _ _ _ _ c.next.ensures _ c.in-Entry.is in
-    let lies : let a = c.args in
-    a.slot * a.split.size + c.loop-header.at + c.in-Entry.header.length ≤ length a.area.now = entry-lies c.requires.split_fits.slots _ c.requires.slot_lt_slots _ c.cut-s.ensures _ _ (met).ranges in
-    let low : entry_size c.args.edition 0 ≤ c.in-Entry.header.length = meets-long _ _ _ (met) in
     let a = c.args in
     omega (
       arith,
       c.measure_entry-total.ensures,
       forgot-long a.into a.area.now a.cells.now a.marks.now a.live a.edition c.in-Entry.header
-          (a.slot * a.split.size + c.loop-header.at) (low) (lies),
+          (a.slot * a.split.size + c.loop-header.at) ((meets-long _ _ _ ((meets _ _ _ _ c.next.ensures _ c.in-Entry.is)))) ((entry-lies c.requires.split_fits.slots _ c.requires.slot_lt_slots _ c.cut-s.ensures _ _ ((meets _ _ _ _ c.next.ensures _ c.in-Entry.is)).ranges)),
     )
 
 pub cut-s-requires : goal.cut-s-requires

@@ -10,4 +10,4 @@ returns-in-Keys c =
 pub returns-in-TooMany : goal.returns-in-TooMany
 returns-in-TooMany c =
     built-many _ _ _ _ _ _ c.clear.ensures _ _ c.index_order.ensures c.in-TooMany.is _ _ c.give_up.ensures
-    (c.index_order.auto.1.0 ∙ c.clear.auto.0)
+    (c.index_order.auto.cells ∙ c.clear.auto.cells)

@@ -17,13 +17,15 @@ use Rattle.index.proofs.build.index_entry.Goals.{After-search, In-At, In-Free}
 -- what the search found
 abbrev found : After-search → Found
 found c =
-    let a = c.before.before.before.before.args in
+    let a = c.args in
     search_for a.area.now a.cells.now a.key
 
-is_free : (c : In-Free) → found c.before.before ≡ Found.Free c.in-Free.i
+is_free : (c : In-Free) → (let a = c.args in
+    search_for a.area.now a.cells.now a.key) ≡ Found.Free c.in-Free.i
 is_free c = sym c.search.ensures ∙ c.in-Free.is
 
-is_at : (c : In-At) → found c.before.before ≡ Found.At c.in-At.i
+is_at : (c : In-At) → (let a = c.args in
+    search_for a.area.now a.cells.now a.key) ≡ Found.At c.in-At.i
 is_at c = sym c.search.ensures ∙ c.in-At.is
 
 inside : (c : In-At) → let a = c.args in Inside a.area.now a.cells.now c.in-At.i

@@ -8,8 +8,8 @@ use Rattle.index.proofs.build.index_order.Goals.{After-index_listed}
 
 -- the cells stay as many
 long : (c : After-index_listed) →
-    length c.index_listed.new.1.0 ≡ length c.args.cells.now
-long c = c.index_listed.auto.1.0 ∙ c.loop-j.invariant.1
+    length c.index_listed.new.cells ≡ length c.args.cells.now
+long c = c.index_listed.auto.cells ∙ c.loop-j.invariant.1
 
 pub loop-j-init : goal.loop-j-init
 loop-j-init c = (search rules, refl, search rules, refl)

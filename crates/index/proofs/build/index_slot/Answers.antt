@@ -25,8 +25,8 @@ fits c =
 
 -- the cells stay as many
 long : (c : After-index_entry) →
-    length c.index_entry.new.1.0 ≡ length c.args.cells.now
-long c = c.index_entry.auto.1.0 ∙ c.loop-header.invariant.0
+    length c.index_entry.new.cells ≡ length c.args.cells.now
+long c = c.index_entry.auto.cells ∙ c.loop-header.invariant.0
 
 pub overflow_add-place : goal.overflow_add-place
 overflow_add-place c = omega (arith, fits c)

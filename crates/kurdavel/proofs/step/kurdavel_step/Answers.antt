@@ -44,17 +44,14 @@ byte_from-requires c = c.found_in.ensures.inside _ _ _ c.in-At.is
 
 -- the store that is made
 at-is : (b : After-byte_from)
-    → let a =
-    let found-is : let a = b.args in
-    answered a.work.now b.found_in.result ≡ found_by (decoded a.words.now).rec.edition (decoded a.words.now).rec a.area.now (length a.index.now) a.work.now = let a = b.args in
-    front-found a.words.now a.area.now a.work.now (length a.index.now) b.fits.ensures (ap not b.if-not-fits.false) (b.found_in.ensures.told a.work.now refl) in
-    b.args in
+    → let a = b.args in
     found_by (decoded a.words.now).rec.edition (decoded a.words.now).rec a.area.now (length a.index.now) a.work.now
     ≡ TellAnswer.At b.in-At.place b.byte_from.result
 unfolding answered
 at-is b =
     let a = b.args in
-    sym (found-is) ∙ ap (answered a.work.now) b.in-At.is ∙ ap (TellAnswer.At b.in-At.place) (sym b.byte_from.ensures)
+    sym ((let a = b.args in
+    front-found a.words.now a.area.now a.work.now (length a.index.now) b.fits.ensures (ap not (ap not b.if-not-fits.false)) (b.found_in.ensures.told a.work.now refl))) ∙ ap (answered a.work.now) b.in-At.is ∙ ap (TellAnswer.At b.in-At.place) (sym b.byte_from.ensures)
 
 pub bounds-area-place : goal.bounds-area-place
 bounds-area-place c = let a = c.args in on-inside a.words.now a.area.now a.work.now (length a.index.now) _ _ (at-is c)

@@ -26,10 +26,10 @@ bounds-area-digest_size c =
     omega (arith, c.digest_size.ensures, width-high c.args.edition)
 
 pub shape_of-area : goal.shape_of-area
-shape_of-area c = omega (arith, length-set c.write_digest.new.1.0 c.digest_size.result 0)
+shape_of-area c = omega (arith, length-set c.write_digest.new.s c.digest_size.result 0)
 
 pub returns : goal.returns
 returns c =
     format-done _ _ _ _ _ _ _ (sym c.geometry_bad.ensures ∙ c.if-geometry_bad.false)
     c.clear.ensures c.write_digest.ensures
-    (ap (λ (k : ℕ). set c.write_digest.new.1.0 k 0) c.digest_size.ensures)
+    (ap (λ (k : ℕ). set c.write_digest.new.s k 0) c.digest_size.ensures)

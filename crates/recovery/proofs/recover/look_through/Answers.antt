@@ -4,6 +4,7 @@ use Rattle.segment.specs.Digest.{layout_in}
 use Rattle.model.specs.Log.{segment_of, views_of}
 use Rattle.drive_log.specs.Shape.{inside}
 use Rattle.recovery.specs.CheckLaws.{head-below, head-mixed, head-damaged, head-shared, head-sound}
+use borrow.Author.Tests.{not-true, not-false}
 use Rattle.recovery.proofs.recover.look_through.Goals as goal
 use Rattle.recovery.proofs.recover.look_through.Goals.{After-edition_of-edition}
 
@@ -25,11 +26,11 @@ returns-then-editions_bad c =
 pub returns-then-not-passed : goal.returns-then-not-passed
 returns-then-not-passed c =
     head-damaged c.args.single _ _ _ c.requires.1 _ (own (goal.at.returns-then-not-passed c).After-edition_of-edition) (sym c.editions_bad.ensures ∙ c.if-editions_bad.false)
-    (c.survey-passed.ensures.damage c.if-not-passed.true)
+    (c.survey-passed.ensures.damage (not-true _ c.if-not-passed.true))
 
 pub version_shared-requires : goal.version_shared-requires
 version_shared-requires c =
-    let s = c.survey-passed.ensures in let e = c.if-not-passed.false in 
+    let s = c.survey-passed.ensures in let e = not-false _ c.if-not-passed.false in 
     record {
       shape = c.requires.0;
       n_value = s.undamaged e;
@@ -39,11 +40,11 @@ version_shared-requires c =
 pub returns-then-version_shared : goal.returns-then-version_shared
 returns-then-version_shared c =
     head-shared c.args.single _ _ _ c.requires.1 _ (own (goal.at.returns-then-version_shared c).After-edition_of-edition) (sym c.editions_bad.ensures ∙ c.if-editions_bad.false)
-    (c.survey-passed.ensures.undamaged c.if-not-passed.false) (sym c.version_shared.ensures ∙ c.if-version_shared.true)
+    (c.survey-passed.ensures.undamaged (not-false _ c.if-not-passed.false)) (sym c.version_shared.ensures ∙ c.if-version_shared.true)
 
 pub returns : goal.returns
 returns c =
-    let whole = c.if-not-passed.false in
+    let whole = not-false _ c.if-not-passed.false in
     head-sound c.args.single _ _ _ c.requires.1 _ (own (goal.at.returns c).After-edition_of-edition) (sym c.editions_bad.ensures ∙ c.if-editions_bad.false)
     (c.survey-passed.ensures.undamaged whole) _
     (λ i. record { 0 = c.survey-passed.ensures.highest-is whole i }) (sym c.version_shared.ensures ∙ c.if-version_shared.false)

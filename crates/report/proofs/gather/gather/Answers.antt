@@ -34,7 +34,7 @@ pub loop-i-preserved : goal.loop-i-preserved
 loop-i-preserved c =
     let l = c.loop-i in (
       gather-turn _ _ _ _ _ _ _ c.loop-i-test.true l.invariant.0 c.add_cell-n.ensures,
-      c.add_cell-n.auto.1.1.0 ∙ l.invariant.1,
+      c.add_cell-n.auto.ranks ∙ l.invariant.1,
     )
 
 pub shape_of-ranks : goal.shape_of-ranks

@@ -22,7 +22,7 @@ pub loop-i-preserved : goal.loop-i-preserved
 loop-i-preserved c =
     let l = c.loop-i in
     lines-turn _ _ _ c.requires.1 _ _ _ _ _ l.invariant (keys-typed _ _ _ _ c.requires.0) c.loop-i-test.true _
-    c.key_of.ensures _ _ c.put_line-end.auto.1.1.1.1.0 c.put_line-end.ensures
+    c.key_of.ensures _ _ c.put_line-end.auto.out c.put_line-end.ensures
 
 pub shape_of-out : goal.shape_of-out
 shape_of-out c = c.loop-i.invariant.long

@@ -11,8 +11,8 @@ use Rattle.report.proofs.listing.put_listing.Goals.{After-gather-keys}
 
 -- what is gathered are the ranks of the present keys
 listed : (c : After-gather-keys)
-    → let a = c.args in Listed a.area.now a.rec c.gather-keys.new.1.1.0 c.gather-keys.result
-listed c = gathered-listed _ _ _ _ _ _ c.requires.0 c.gather-keys.auto.1.1.0 c.gather-keys.ensures
+    → let a = c.args in Listed a.area.now a.rec c.gather-keys.new.ranks c.gather-keys.result
+listed c = gathered-listed _ _ _ _ _ _ c.requires.0 c.gather-keys.auto.ranks c.gather-keys.ensures
 
 pub gather-keys-requires : goal.gather-keys-requires
 gather-keys-requires c =

@@ -30,7 +30,7 @@ pub loop-left-smaller : goal.loop-left-smaller
 loop-left-smaller c = omega arith
 
 pub loop-left-preserved : goal.loop-left-preserved
-loop-left-preserved c = (omega arith, run-turn c.args.faulty (history_wrong c.args.faulty (word c.args.letters c.args.number)) c.loop-left.left c.loop-left.rest c.loop-left.place c.loop-left.area c.loop-left.index c.loop-left.work c.loop-left.rec c.loop-left.book c.loop-left.invariant.1 c.words-unit.result c.letter_of-l.result (record { some_left = omega arith; unit-is = c.words-unit.ensures; letter-is = c.letter_of-l.ensures }) _ _ _ c.play-played.result.rec c.play-played.result.book c.play-played.result.wrong c.play-played.ensures c.if-played.false (omega (arith, c.play-played.auto.1.1.1.1.1.1.0, c.loop-left.invariant.1.work-long)) _ _ refl refl)
+loop-left-preserved c = (omega arith, run-turn c.args.faulty (history_wrong c.args.faulty (word c.args.letters c.args.number)) c.loop-left.left c.loop-left.rest c.loop-left.place c.loop-left.area c.loop-left.index c.loop-left.work c.loop-left.rec c.loop-left.book c.loop-left.invariant.1 c.words-unit.result c.letter_of-l.result (record { some_left = omega arith; unit-is = c.words-unit.ensures; letter-is = c.letter_of-l.ensures }) _ _ _ c.play-played.result.rec c.play-played.result.book c.play-played.result.wrong c.play-played.ensures c.if-played.false (omega (arith, c.play-played.auto.work, c.loop-left.invariant.1.work-long)) _ _ refl refl)
 
 pub slice_bounds-recovers_wrongly-end : goal.slice_bounds-recovers_wrongly-end
 slice_bounds-recovers_wrongly-end c = sym (area-long c.loop-left.area c.loop-left.rec c.loop-left.invariant.1.ready.bytes c.loop-left.invariant.1.ready.recovers)

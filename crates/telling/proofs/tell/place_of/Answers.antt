@@ -1,5 +1,4 @@
 -- `telling::tell::place_of` meets its contract: a law for each return, at the tests that led there, for every work buffer of that length.
-use mathlib.Core.Bool.{not}
 use mathlib.Core.Path.{◌≡◌, sym, ◌∙◌, ap}
 use mathlib.Core.List.{List}
 use Prim.Native.Nat.{ℕ}
@@ -40,17 +39,15 @@ returns-then-to-eq0 c =
 
 pub returns-then-not-aim : goal.returns-then-not-aim
 returns-then-not-aim c =
-    place-refused _ _ _ _ _ (λ w l. tell-unfit _ (edition-laws _) c.args.rec c.args.area.now w c.requires (omega (arith, l, c.if-work-rec.false)) (left_is (goal.at.returns-then-not-aim c).After-aim_of-aim) c.if-to-eq0.false (agrees-is (goal.at.returns-then-not-aim c).After-aim_of-aim) (ap not c.if-not-aim.true))
+    place-refused _ _ _ _ _ (λ w l. tell-unfit _ (edition-laws _) c.args.rec c.args.area.now w c.requires (omega (arith, l, c.if-work-rec.false)) (left_is (goal.at.returns-then-not-aim c).After-aim_of-aim) c.if-to-eq0.false (agrees-is (goal.at.returns-then-not-aim c).After-aim_of-aim) c.if-not-aim.true)
 
 pub next_place-requires : goal.next_place-requires
 next_place-requires c = target_first _ _ _ (to_is (goal.at.next_place-requires c).After-aim_of-aim)
 
 -- the store that is found, with a work buffer of that length
 next-is : (p : After-next_place)
-    → let a =
-    let to_is : let r = p.args.rec in p.aim_of-aim.result.to ≡ target_of r.pending r.head r.end = ap (λ (a : Aim). a.to) p.aim_of-aim.ensures in
-    p.args in (w : List ℕ) → length w ≡ a.work → filled w p.next_place.result ≡ next_store (length a.area.now) w a.rec
-next-is p w l = next-target _ _ _ (to_is) (filled_next _ _ _ _ p.next_place.ensures w l)
+    → let a = p.args in (w : List ℕ) → length w ≡ a.work → filled w p.next_place.result ≡ next_store (length a.area.now) w a.rec
+next-is p w l = next-target _ _ _ ((ap (λ (a : Aim). a.to) p.aim_of-aim.ensures)) (filled_next _ _ _ _ p.next_place.ensures w l)
 
 pub overflow_cast-result : goal.overflow_cast-result
 unfolding filled
@@ -59,7 +56,7 @@ overflow_cast-result c =
     let l = length-replicate {A = ℕ} c.args.work 0 in
     record {
       fits =
-          tell-place _ (edition-laws _) c.args.rec c.args.area.now w c.requires (omega (arith, l, c.if-work-rec.false)) (left_is (goal.at.overflow_cast-result c).After-aim_of-aim) c.if-to-eq0.false (agrees-is (goal.at.overflow_cast-result c).After-aim_of-aim) (ap not c.if-not-aim.false)
+          tell-place _ (edition-laws _) c.args.rec c.args.area.now w c.requires (omega (arith, l, c.if-work-rec.false)) (left_is (goal.at.overflow_cast-result c).After-aim_of-aim) c.if-to-eq0.false (agrees-is (goal.at.overflow_cast-result c).After-aim_of-aim) c.if-not-aim.false
           (next-is (goal.at.overflow_cast-result c).After-next_place w l) _ _ (ap (filled w) c.in-At.is);
     }
 
@@ -75,7 +72,7 @@ unfolding filled
 returns-in-Bad c =
     place-refused _ _ _ _ _
     (λ w l.
-    tell-nowhere _ (edition-laws _) c.args.rec c.args.area.now w c.requires (omega (arith, l, c.if-work-rec.false)) (left_is (goal.at.returns-in-Bad c).After-aim_of-aim) c.if-to-eq0.false (agrees-is (goal.at.returns-in-Bad c).After-aim_of-aim) (ap not c.if-not-aim.false)
+    tell-nowhere _ (edition-laws _) c.args.rec c.args.area.now w c.requires (omega (arith, l, c.if-work-rec.false)) (left_is (goal.at.returns-in-Bad c).After-aim_of-aim) c.if-to-eq0.false (agrees-is (goal.at.returns-in-Bad c).After-aim_of-aim) c.if-not-aim.false
     (next-is (goal.at.returns-in-Bad c).After-next_place w l) (ap (filled w) c.in-Bad.is))
 
 pub returns-in-At : goal.returns-in-At
@@ -83,6 +80,6 @@ unfolding filled
 returns-in-At c =
     place-told _ _ _ _ _ _ _
     (λ w l.
-    tell-at _ (edition-laws _) c.args.rec c.args.area.now w c.requires (omega (arith, l, c.if-work-rec.false)) (left_is (goal.at.returns-in-At c).After-aim_of-aim) c.if-to-eq0.false (agrees-is (goal.at.returns-in-At c).After-aim_of-aim) (ap not c.if-not-aim.false)
+    tell-at _ (edition-laws _) c.args.rec c.args.area.now w c.requires (omega (arith, l, c.if-work-rec.false)) (left_is (goal.at.returns-in-At c).After-aim_of-aim) c.if-to-eq0.false (agrees-is (goal.at.returns-in-At c).After-aim_of-aim) c.if-not-aim.false
     (next-is (goal.at.returns-in-At c).After-next_place w l) _ _ (ap (filled w) c.in-At.is))
     (copies-slot _ _ _ _ _ _ _ _ _ _ _ (sym c.next_place.ensures ∙ c.in-At.is)).1

@@ -16,12 +16,10 @@ sized : (c : After-head_size) →
 sized c = omega (arith, c.head_size.ensures)
 
 fit : (c : After-fits_head) →
-    let a =
-    let sized : let a = c.args in c.head_size.result + length a.value.now ≡ entry_size a.rec.edition (length a.value.now) = omega (arith, c.head_size.ensures) in
-    c.args in c.fits_head.result ≡ fits_with a.rec.edition a.rec (entry_size a.rec.edition (length a.value.now))
+    let a = c.args in c.fits_head.result ≡ fits_with a.rec.edition a.rec (entry_size a.rec.edition (length a.value.now))
 fit c =
     let a = c.args in
-    c.fits_head.ensures ∙ ap (fits_with a.rec.edition a.rec) (sized)
+    c.fits_head.ensures ∙ ap (fits_with a.rec.edition a.rec) ((omega (arith, c.head_size.ensures)))
 
 pub overflow_add-head_size : goal.overflow_add-head_size
 overflow_add-head_size c = omega (arith, sized c, c.requires.entry_ready.room)
