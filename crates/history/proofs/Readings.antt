@@ -190,7 +190,7 @@ module _ (E : Editions) (L : Layout) (laws : OperationLaws L) (n s : ℕ) where
         where
           go : (t : Bool) → holds_table v k.table ≡ t →
               (K : Layout) × Among E K × (read_said (read_answer cause (present (log_now area r) k)) ≡ pick t (read_said (book_answer K x)) (refusal 22))
-          go true e = let (K, its, answer) = read_answer e in (K, its, ap read_said answer)
+          go true e = let (K, its, answer) = read_answer_lem e in (K, its, ap read_said answer)
           go false e = (L, own, ap (λ (c : Option Refusal). read_said (read_answer c (present (log_now area r) k))) (only-outside e))
 
       pub value-given :

@@ -40,7 +40,7 @@ use Rattle.history.proofs.Invariant.{Inv, HeldGood, base_cells, book_entry, plac
 use Rattle.history.proofs.Starts.{start-keeps}
 use Rattle.history.proofs.Steps.{step_keeps}
 use Rattle.history.proofs.Switchings.{switch-keeps}
-use Rattle.history.proofs.Readings.{read_answer, value-answer, ask-keeps}
+use Rattle.history.proofs.Readings.{read_answer_lem, value-answer, ask-keeps}
 use Rattle.history.proofs.Scannings.{look-keeps}
 use Rattle.history.proofs.Recoveries.{recover-keeps, cut_keeps}
 
@@ -166,7 +166,7 @@ module _ (n s : ℕ) where
             answers =
                 λ t k ty held a q.
                 let (K, its, answer) =
-                read_answer E L (edition-laws L) n s w.area cells' rec inv.bytes recovers fits t k (b.keys k) (inv.agrees.map_same k)
+                read_answer_lem E L (edition-laws L) n s w.area cells' rec inv.bytes recovers fits t k (b.keys k) (inv.agrees.map_same k)
                 inv.agrees.own-among among held in
                 (K, its, q.exact genuine ∙ answer);
             values =

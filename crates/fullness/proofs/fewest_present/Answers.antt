@@ -16,7 +16,7 @@ returns-then-not-in_range c = refused-promise _ _ (sym c.in_range.ensures ∙ c.
 pub fewest_slot-slot-requires : goal.fewest_slot-slot-requires
 fewest_slot-slot-requires c =
     let facts = own-lengths _ _ (in-range (goal.at.fewest_slot-slot-requires c).Else-not-in_range) in
-    (facts.slots-high, omega (arith, facts.slots-high, slice-aggregate-fewest-slot c), facts.head-below, facts.head-named)
+    (facts.slots-high, omega (arith, facts.slots-high), facts.head-below, facts.head-named)
 
 pub returns : goal.returns
 returns c = told-promise _ _ _ (in-range (goal.at.returns c).Else-not-in_range) c.fewest_slot-slot.ensures

@@ -1,11 +1,6 @@
 -- `switching::switch` meets its contract: out of range, idle, or with an operation pending.
-use Prim.Native.Nat.{ℕ}
-use mathlib.Core.Logic.{◌⊎◌, ⊎_elim}
 use mathlib.Core.Path.{◌≡◌, refl, sym, ap, ◌∙◌}
 use mathlib.Core.Bool.{true}
-use native.Mathlib.Omega.{arith}
-use denote.Enum.Declared.{tag_of}
-use Rattle.record.specs.contracts.Pending.{the_type}
 use Rattle.record.specs.Range.{in_range}
 use Rattle.record.specs.declared.Record.{Record}
 use Rattle.record.specs.declared.SwitchAnswer.{SwitchAnswer}
@@ -13,10 +8,6 @@ use Rattle.model.specs.Switching.{switching}
 use Rattle.switching.specs.SwitchLaws.{bad-promise, busy-promise, taken-promise}
 use Rattle.switching.proofs.switch.Goals as goal
 use Rattle.switching.proofs.switch.Goals.{Else-not-in_range}
-
--- 0 is the place of `Idle` among the variants
-not-idle : {x : ℕ} → x ≡ 0 → (x ≡ 1) ⊎ ((x ≡ 2) ⊎ ((x ≡ 3) ⊎ (x ≡ 4))) → ⊥
-not-idle z w = ⊎_elim (λ e. omega arith) (⊎_elim (λ e. omega arith) (⊎_elim (λ e. omega arith) (λ e. omega arith))) w
 
 in-range : (c : Else-not-in_range) → in_range c.args.rec.edition c.args.rec ≡ true
 in-range c = sym c.in_range.ensures ∙ c.if-not-in_range.false
@@ -33,4 +24,4 @@ returns-in-Idle c =
 
 pub returns : goal.returns
 unfolding switching
-returns c = busy-promise _ _ _ (in-range (goal.at.returns c).Else-not-in_range) (λ e. not-idle (ap (tag_of the_type) e) c.in_default.in_default-own.keys2) refl
+returns c = busy-promise _ _ _ (in-range (goal.at.returns c).Else-not-in_range) c.in_default.not-Idle refl

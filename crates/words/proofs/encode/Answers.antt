@@ -5,12 +5,12 @@ use Rattle.words.specs.WordLaws.{in_order}
 use Rattle.words.proofs.encode.Goals as goal
 
 pub copy_words-requires : goal.copy_words-requires
-copy_words-requires c = omega (arith, slice-aggregate-copy-words c)
+copy_words-requires c = omega arith
 
 pub returns : goal.returns
 returns c =
     let a = c.args in 
     record {
       put = in_order a.words.now _ _ _ a.rec c.put_numbers.ensures c.encode_pending.ensures c.copy_words.ensures;
-      long = sym (slice-aggregate-copy-words c.before.before.before);
+      long = omega arith;
     }

@@ -32,7 +32,7 @@ bounds-words-16 c = omega (arith, record-long _ (are-record (goal.at.bounds-word
 front-is : (k : After-front_fits) → k.front_fits.result ≡ front_good k.front_in-front.result.edition k.front_in-front.result
 front-is k =
     front-tagged _ _ k.args.area k.args.index
-    ((sym k.is_record.ensures ∙ (ap not k.if-not-is_record.false))) k.front_in-front.ensures k.front_fits.ensures
+    ((sym k.is_record.ensures ∙ k.if-not-is_record.false)) k.front_in-front.ensures k.front_fits.ensures
 
 pub returns-then-not-front_fits : goal.returns-then-not-front_fits
 returns-then-not-front_fits c =
@@ -42,7 +42,7 @@ returns-then-not-front_fits c =
 -- what is known once the front is tested
 within : (c : Else-not-front_fits) → Limits c.front_in-front.result
 within c = front-limits _ _ (sym ((front-tagged _ _ c.args.area c.args.index
-    ((sym c.is_record.ensures ∙ (ap not (ap not c.if-not-is_record.false)))) c.front_in-front.ensures c.front_fits.ensures)) ∙ c.if-not-front_fits.false)
+    ((sym c.is_record.ensures ∙ c.if-not-is_record.false)) c.front_in-front.ensures c.front_fits.ensures)) ∙ c.if-not-front_fits.false)
 
 pub lengths_own-requires : goal.lengths_own-requires
 lengths_own-requires c = omega (arith, within c)

@@ -1,8 +1,13 @@
 -- `cleaning::kept::found_kept` meets its contract.
 use native.Mathlib.Omega.{arith}
+use borrow.Author.Rules.{scaled_Fits}
 use borrow.Author.Tests.{not-true, not-false}
 use Rattle.cleaning.specs.KeptLaws.{kept-older, kept-object, kept-tombstone, kept_free, kept_full}
 use Rattle.cleaning.proofs.kept.found_kept.Goals as goal
+
+pub offset_bounds-cells-i : goal.offset_bounds-cells-i
+offset_bounds-cells-i c =
+    scaled_Fits _ _ 4 (c.requires.found_inside _ c.in-At.is) c.well_formed.0.1
 
 pub bounds-cells-i : goal.bounds-cells-i
 bounds-cells-i c = c.requires.found_inside _ c.in-At.is

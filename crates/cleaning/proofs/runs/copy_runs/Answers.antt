@@ -4,7 +4,7 @@ use native.Mathlib.Omega.{arith}
 use lib.ListN.{length}
 use Rattle.cleaning.specs.ChosenLaws.{chosen_from, chosen-whole, chosen-stop}
 use Rattle.cleaning.specs.EntriesLaws.{Meets, meets, stops_end, stops-damage, tombstone-length, slot-lies, slot-long, place_short, area-short}
-use Rattle.cleaning.specs.Runs.{Run, stretch, run-as, run-first, run-passed, stretch-room, stretch-copied}
+use Rattle.cleaning.specs.Runs.{Run, stretch, run-as, run-first, run-passed, stretch-long, stretch-room, stretch-copied}
 use Rattle.segment.specs.Copied.{copied_none, copying-start, copying-room, copying-next, copying-end}
 use Rattle.cleaning.proofs.runs.copy_runs.Goals as goal
 use Rattle.cleaning.proofs.runs.copy_runs.Goals.{After-cut-s, After-run_behind-at, In-Entry}
@@ -98,6 +98,10 @@ copy_into-requires c =
 
 pub overflow_sub-to : goal.overflow_sub-to
 overflow_sub-to c = (the-run (goal.at.overflow_sub-to c).After-run_behind-at).low
+
+pub overflow_add-to : goal.overflow_add-to
+overflow_add-to c =
+    omega (arith, room (goal.at.overflow_add-to c).After-run_behind-at, stretch-long c.args.area.now c.args.split.size c.args.slot _ _ (the-run (goal.at.overflow_add-to c).After-run_behind-at).low (lies (goal.at.overflow_add-to c).After-run_behind-at), c.loop-header.invariant.long, c.well_formed.1.1.1.1.1.0.1)
 
 pub loop-header-smaller-then-is_chosen : goal.loop-header-smaller-then-is_chosen
 loop-header-smaller-then-is_chosen c =

@@ -25,10 +25,10 @@ loop-header-init c =
     (sym (own-scan a.area.now a.s a.slot _ c.cut-part.ensures _ c.edition_of-edition.ensures)))
 
 -- the log of the slots below k
-abbrev below : Start invariant-loop decreases-loop → ℕ → List Placed
+abbrev below : Start → ℕ → List Placed
 below c k = log_of (views_of c.args.area.now c.args.s) (named c.args.map) k
 
-within : (c : Start invariant-loop decreases-loop) (u : ℕ) → count u (below c (c.args.slot + 1)) ≤ count u (below c c.args.n)
+within : (c : Start) (u : ℕ) → count u (below c (c.args.slot + 1)) ≤ count u (below c c.args.n)
 within c = slot-inside-log _ _ _ _ c.requires.entering.below
 
 -- the entry that the turn passes

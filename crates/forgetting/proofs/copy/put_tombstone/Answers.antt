@@ -10,6 +10,10 @@ pub write_head-requires : goal.write_head-requires
 write_head-requires c =
     omega (arith, c.requires, length-dead c.args.into c.args.live c.if-not-live.false)
 
+pub overflow_add-result : goal.overflow_add-result
+overflow_add-result c =
+    omega (arith, c.requires, c.well_formed.1.1.0.1, length-dead c.args.into c.args.live c.if-not-live.false, c.head_size.ensures)
+
 pub returns : goal.returns
 returns c =
     rw c.head_size.ensures

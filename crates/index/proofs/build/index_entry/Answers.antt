@@ -11,6 +11,7 @@ use Rattle.index.specs.Search.{search_for}
 use Rattle.index.specs.SearchLaws.{Inside, search-inside, search-free}
 use Rattle.index.specs.InsertLaws.{insert-newer, insert-older, insert-new, insert-full}
 use Rattle.index.specs.Turns.{one-new, one-over, one-newer, one-older, one-full}
+use borrow.Author.Rules.{scaled_Fits}
 use Rattle.index.proofs.build.index_entry.Goals as goal
 use Rattle.index.proofs.build.index_entry.Goals.{After-search, In-At, In-Free}
 
@@ -39,6 +40,9 @@ returns-then-keys-cells c =
     one-new _ _ _ _ _ _ _ _
     (ap (λ (l : List ℕ). record { answer = Inserted.New; cells = l }) c.put.ensures ∙ sym (insert-new _ _ _ _ _ _ (is_free (goal.at.returns-then-keys-cells c).In-Free))) refl
     c.if-keys-cells.true
+
+pub offset_bounds-cells-i : goal.offset_bounds-cells-i
+offset_bounds-cells-i c = scaled_Fits _ _ 4 (inside c).below c.well_formed.1.0.1
 
 pub bounds-cells-i : goal.bounds-cells-i
 bounds-cells-i c = (inside (goal.at.bounds-cells-i c).In-At).below

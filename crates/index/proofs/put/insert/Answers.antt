@@ -10,6 +10,7 @@ use Rattle.index.specs.declared.Found.{Found}
 use Rattle.index.specs.Search.{search_for}
 use Rattle.index.specs.SearchLaws.{Inside, search-inside, search-free}
 use Rattle.index.specs.InsertLaws.{insert-newer, insert-older, insert-new, insert-full}
+use borrow.Author.Rules.{scaled_Fits}
 use Rattle.index.proofs.put.insert.Goals as goal
 use Rattle.index.proofs.put.insert.Goals.{After-search, In-At, In-Free}
 
@@ -32,6 +33,9 @@ inside c = search-inside _ _ _ c.in-At.i (is_at c)
 
 pub put-requires : goal.put-requires
 put-requires c = (search-free _ _ _ _ (is_free (goal.at.put-requires c).In-Free), omega arith)
+
+pub offset_bounds-cells-i : goal.offset_bounds-cells-i
+offset_bounds-cells-i c = scaled_Fits _ _ 4 (inside c).below c.well_formed.1.0.1
 
 pub bounds-cells-i : goal.bounds-cells-i
 bounds-cells-i c = (inside (goal.at.bounds-cells-i c).In-At).below

@@ -1,6 +1,7 @@
 -- `joining::notes::note_key` meets its contract.
 use mathlib.Core.Path.{◌≡◌, sym, ◌∙◌}
 use native.Mathlib.Omega.{arith}
+use borrow.Author.Rules.{scaled_Fits}
 use Rattle.index.specs.declared.Found.{Found}
 use Rattle.index.specs.Search.{search_for}
 use Rattle.index.specs.SearchLaws.{search-inside}
@@ -12,6 +13,9 @@ use Rattle.joining.proofs.notes.note_key.Goals.{In-At}
 is_at : (c : In-At)
     → let a = c.args in search_for a.area.now a.cells.now a.key ≡ Found.At c.in-At.i
 is_at c = sym c.search.ensures ∙ c.in-At.is
+
+pub offset_bounds-cells-i : goal.offset_bounds-cells-i
+offset_bounds-cells-i c = scaled_Fits _ _ 4 (search-inside _ _ _ _ (is_at c)).below c.well_formed.1.0.1
 
 pub bounds-cells-i : goal.bounds-cells-i
 bounds-cells-i c = (search-inside _ _ _ _ (is_at (goal.at.bounds-cells-i c).In-At)).below

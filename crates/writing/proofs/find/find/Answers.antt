@@ -4,6 +4,7 @@ use native.Mathlib.Omega.{arith}
 use Rattle.index.specs.SearchLaws.{Inside, search-inside}
 use Rattle.writing.specs.Tests.{presence_of}
 use Rattle.writing.specs.TestLaws.{presence-full, presence-free, presence-at}
+use borrow.Author.Rules.{scaled_Fits}
 use Rattle.writing.proofs.find.find.Goals as goal
 use Rattle.writing.proofs.find.find.Goals.{In-At}
 
@@ -12,6 +13,9 @@ inside : (c : In-At) →
     let a = c.args in
     Inside a.area.now a.index.now c.in-At.i
 inside c = search-inside _ _ _ _ (sym c.search.ensures ∙ c.in-At.is)
+
+pub offset_bounds-index-i : goal.offset_bounds-index-i
+offset_bounds-index-i c = scaled_Fits _ _ 4 (inside c).below c.well_formed.1.0.1
 
 pub bounds-index-i : goal.bounds-index-i
 bounds-index-i c = (inside (goal.at.bounds-index-i c).In-At).below
