@@ -244,6 +244,7 @@ module _ (S high : ℕ) where
 
   spaced-in : (low : ℕ) (xs : List Placed) → Spaced S low high xs → (x : Placed) → In x xs → (low ≤ place_of S x) × (place_of S x + 8 ≤ high)
   unfolding Spaced
+  spaced-in low [] p x m = elim m [ ]
   spaced-in low (y ∷ ys) p x (Memᴰ.head q) =
       let e : place_of S x ≡ place_of S y = ap (place_of S) q in
       (omega (arith, e, p.0), omega (arith, e, spaced-end (place_of S y + 8) ys p.1))
@@ -315,6 +316,7 @@ module _ (test : Test) (S high : ℕ) (inside : high ≤ 65536) where
       ((q : ℕ) → low ≤ q → q < 65536 → is_chosen chosen q ≡ false) → (x : Placed) → In x xs →
       is_chosen (choose_placed test S chosen xs) (place_of S x) ≡ test (placed_header x) (place_of S x)
   unfolding choose_placed Spaced
+  placed-tell low [] sp chosen long clear x m = elim m [ ]
   placed-tell low (y ∷ ys) sp chosen long clear x (Memᴰ.head e) =
       let end = spaced-end S high (place_of S y + 8) ys sp.1 in
       let h = placed_header y in

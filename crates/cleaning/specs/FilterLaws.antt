@@ -183,6 +183,7 @@ module _ (y : Item) (dead : is_tombstone y.entry ≡ true) where
 
   items-have : (L : Layout) (is : List Item) (filter : List ℕ) → length filter ≡ 128 → In y is → Has own (walk_items L note_entry filter is)
   unfolding walk_items note_entry
+  items-have L [] filter long m = elim m [ ]
   items-have L (x ∷ xs) filter long (Memᴰ.head q) =
       items_keep note_entry (Has own) (has-note own) L xs _
       (subst (λ (z : Item). Has own (note_entry filter (header_of L z.entry))) q

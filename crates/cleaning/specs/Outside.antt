@@ -31,6 +31,7 @@ module _ (L : Layout) (k : Key) where
 
   pub none-items : (is : List Item) → object_in L k is ≡ false → (y : Item) → In y is → is_object k (header_of L y.entry) ≡ false
   unfolding object_in
+  none-items [] e y m = elim m [ ]
   none-items (x ∷ xs) e y (Memᴰ.head q) =
       ap (λ (z : Item). is_object k (header_of L z.entry)) q ∙ either-false-left (is_object k (header_of L x.entry)) (object_in L k xs) e
   none-items (x ∷ xs) e y (Memᴰ.tail m) =
@@ -49,6 +50,7 @@ module _ (k : Key) where
 
     none-outside : (log : List Placed) → object_outside victims log k ≡ false → (x : Placed) → In x log → seen x ≡ false
     unfolding object_outside
+    none-outside [] e x m = elim m [ ]
     none-outside (y ∷ ys) e x (Memᴰ.head q) = ap seen q ∙ either-false-left (seen y) (object_outside victims ys k) e
     none-outside (y ∷ ys) e x (Memᴰ.tail m) = none-outside ys (either-false-right (seen y) (object_outside victims ys k) e) x m
 

@@ -88,6 +88,7 @@ module _ (g : ℕ → Bool) (i n : ℕ) where
 
 none_in : (is : List Item) → tombstone_in is ≡ false → (y : Item) → In y is → is_tombstone y.entry ≡ false
 unfolding tombstone_in
+none_in [] e y m = elim m [ ]
 none_in (x ∷ xs) e y (Memᴰ.head q) =
     ap (λ (z : Item). is_tombstone z.entry) q ∙ either-false-left (is_tombstone x.entry) (tombstone_in xs) e
 none_in (x ∷ xs) e y (Memᴰ.tail m) = none_in xs (either-false-right (is_tombstone x.entry) (tombstone_in xs) e) y m

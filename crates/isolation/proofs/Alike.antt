@@ -21,7 +21,7 @@ use Rattle.model.specs.Operations.{log_now}
 use Rattle.model.specs.Counts.{counts_of}
 use Rattle.laws.specs.LogLaws.{log-same}
 use Rattle.laws.specs.RecoverLaws.{recovered-facts}
-use Rattle.isolation.proofs.Hidden.{hidden_log, hidden_scan, hidden_views, scan-end, scan-damaged, log-hidden, keys-hidden, shared-hidden, highest-hidden, counts-hidden}
+use Rattle.isolation.proofs.HiddenBytes.{hidden_log, hidden_scan, hidden_views, scan-end, scan-damaged, log-hidden, keys-hidden, shared-hidden, highest-hidden, counts-hidden}
 
 -- what does not go by hidden values is the same of logs that differ in these alone
 pub same_by :

@@ -1,5 +1,5 @@
 -- What is the same in two stores that differ in hidden values.
-pub mod Hidden
+pub mod HiddenBytes
 pub mod Alike
 pub mod Twin
 pub mod Operations

@@ -36,7 +36,7 @@ use Rattle.laws.specs.RecoverLaws.{recovered-image}
 use Rattle.laws.specs.OperationsKept.{edition-roomy, edition-laws}
 use Rattle.history.proofs.Finished.{finished-switch}
 use Rattle.history.proofs.Invariant.{recovered-is}
-use Rattle.isolation.proofs.Hidden.{zeroed, hidden_value, hidden, hidden_log, hidden_one, pick-ap, zeroed-length, size-hidden, present-hidden, has-hidden, kept-hidden, forgotten-hidden, victim-hidden, forget-kept-hidden, encoded-hidden}
+use Rattle.isolation.proofs.HiddenBytes.{zeroed, hidden_value, hidden, hidden_log, hidden_one, pick-ap, zeroed-length, size-hidden, present-hidden, has-hidden, kept-hidden, forgotten-hidden, victim-hidden, forget-kept-hidden, encoded-hidden}
 use Rattle.isolation.proofs.Alike.{Alike, records-same, layouts_same, logs-same}
 use Rattle.isolation.proofs.Twin.{Twin, appends, heads, twin-cut, twin-done}
 

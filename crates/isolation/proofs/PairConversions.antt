@@ -24,7 +24,7 @@ use Rattle.model.specs.Operations.{all_encoded}
 use Rattle.model.specs.Conversion.{entries_in, slot_bytes, rewritten, slot_too_long, version_too_wide, next_too_wide, slot_too_wide, target_layout, image_slots, fit_causes, convert_causes, ConvertPromise}
 use Rattle.laws.specs.RecoverLaws.{recovered-image}
 use Rattle.history.proofs.Scannings.{convert-first}
-use Rattle.isolation.proofs.Hidden.{hidden, hidden_item, hidden_scan, scan-items, encoded-hidden}
+use Rattle.isolation.proofs.HiddenBytes.{hidden, hidden_item, hidden_scan, scan-items, encoded-hidden}
 use Rattle.isolation.proofs.Alike.{AlikeViews, Alike, head-alike, other-alike}
 
 module _ (of : ℕ → Bool) where

@@ -30,7 +30,7 @@ use Rattle.model.specs.Joining.{pair_of, join_fits, lowest_pair, join_pair, join
 use Rattle.model.specs.Promises.{Genuine, read_lengths, read_answer, present_answer, ReadPromise, Part, part_of, value_part, value_answer, ValuePromise}
 use Rattle.laws.specs.Latest.{same_key_lem, latest-some}
 use Rattle.laws.specs.Operated.{OperationLaws}
-use Rattle.isolation.proofs.Hidden.{hidden_value, hidden_log, hidden_one, value-kind, value-told, present-hidden}
+use Rattle.isolation.proofs.HiddenBytes.{hidden_value, hidden_log, hidden_one, value-kind, value-told, present-hidden}
 use Rattle.isolation.proofs.Alike.{Alike, logs-same}
 use Rattle.isolation.proofs.Operations.{absent-hidden, kept-long-hidden}
 

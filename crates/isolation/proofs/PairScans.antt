@@ -27,7 +27,7 @@ use Rattle.model.specs.Scanned.{image_log, sought_causes, scan_causes, ScanPromi
 use Rattle.laws.specs.CauseLaws.{cause-skip, no-cause}
 use Rattle.laws.specs.Operated.{OperationLaws}
 use Rattle.laws.specs.ScanLaws.{scan-log, scan-first}
-use Rattle.isolation.proofs.Hidden.{hidden_log}
+use Rattle.isolation.proofs.HiddenBytes.{hidden_log}
 use Rattle.isolation.proofs.Alike.{Alike, records-same, logs-same}
 use Rattle.isolation.proofs.PairReads.{value_in, objects-same, told_same, absent-same}
 

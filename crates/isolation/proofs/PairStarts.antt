@@ -34,7 +34,7 @@ use Rattle.history.specs.Editions.{Editions}
 use Rattle.history.specs.Runs.{Held, held_after}
 use Rattle.history.proofs.Invariant.{Holding, recovered-is, with-geometry, idle-same}
 use Rattle.history.proofs.Starts.{not-pending}
-use Rattle.isolation.proofs.Hidden.{hidden_log}
+use Rattle.isolation.proofs.HiddenBytes.{hidden_log}
 use Rattle.isolation.proofs.Alike.{Alike, logs-same}
 use Rattle.isolation.proofs.Operations.{hidden_operation, causes-same, pending-same, stores_same}
 use Rattle.isolation.proofs.Pair.{Half, half-first, running, HeldPair}

@@ -28,7 +28,7 @@ use Rattle.laws.specs.OperationsKept.{edition-laws}
 use Rattle.laws.specs.RecoverLaws.{recovered-image}
 use Rattle.history.specs.Runs.{Held}
 use Rattle.history.proofs.Invariant.{recovered-is, idle-of, with-geometry}
-use Rattle.isolation.proofs.Hidden.{hidden_log}
+use Rattle.isolation.proofs.HiddenBytes.{hidden_log}
 use Rattle.isolation.proofs.Alike.{Alike, logs-same}
 use Rattle.isolation.proofs.Operations.{hidden_operation, pending-same, stores_same, cut-alike, done-alike, finished-same}
 use Rattle.isolation.proofs.Pair.{Half, half-started, half-next, Running, Together, resting, running, HeldPair}

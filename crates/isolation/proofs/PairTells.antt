@@ -26,7 +26,7 @@ use Rattle.history.specs.Book.{telling}
 use Rattle.history.specs.Runs.{Held}
 use Rattle.history.proofs.Tellings.{idle-refused, started-pending}
 use Rattle.isolation.specs.Owners.{numbers_of, SameNumbers}
-use Rattle.isolation.proofs.Hidden.{hidden_log}
+use Rattle.isolation.proofs.HiddenBytes.{hidden_log}
 use Rattle.isolation.proofs.Alike.{logs-same}
 use Rattle.isolation.proofs.Operations.{pending-same, long_same}
 use Rattle.isolation.proofs.Pair.{half-started, Running, Together, resting, running, HeldPair}

@@ -36,7 +36,7 @@ use Rattle.history.proofs.Invariant.{Inv, HeldGood, base_cells, held-promise, ar
 use Rattle.history.proofs.Theorem.{move-keeps, fresh}
 use Rattle.isolation.specs.Owners.{Owner, servo, media, blanked_operation, blanked, SameCall, SameInput, SameInputs, SameNumbers, SameToServo, SameAnswer, SameAnswers, same_owner, start_range, range_of, range_holds, gives}
 use Rattle.isolation.specs.Isolation.{Isolation}
-use Rattle.isolation.proofs.Hidden.{zeroed}
+use Rattle.isolation.proofs.HiddenBytes.{zeroed}
 use Rattle.isolation.proofs.Alike.{layouts_same}
 use Rattle.isolation.proofs.Operations.{hidden_operation}
 use Rattle.isolation.proofs.Pair.{HeldBoth, Pair}

@@ -29,7 +29,7 @@ use Rattle.laws.specs.NewHeadBytes.{head_plan, new-head-prefix, new-head-other-p
 use Rattle.laws.specs.RecoverLaws.{recovered-holds, recovered-layout, recovered-scan}
 use Rattle.laws.specs.Headed.{new_others}
 use Rattle.laws.specs.Planned.{new-below, new-free, new-map-fits}
-use Rattle.isolation.proofs.Hidden.{hidden, hidden_item, hidden_scan, map-append, size-hidden, scan-items, encoded-hidden, items_hidden}
+use Rattle.isolation.proofs.HiddenBytes.{hidden, hidden_item, hidden_scan, map-append, size-hidden, scan-items, encoded-hidden, items_hidden}
 use Rattle.isolation.proofs.Alike.{AlikeViews, Alike}
 
 -- entries that are all of the layout

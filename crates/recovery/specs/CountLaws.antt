@@ -47,6 +47,7 @@ record Left {A : Type 0} (f : A → ℕ) (x : A) (l : List A) : Type 0 where
 
 left : {A : Type 0} (f : A → ℕ) (x : A) (l : List A) → In x l → Left f x l
 unfolding sum
+left {A = A} f x [] m = elim m [ ]
 left {A} f x (z ∷ l) (Memᴰ.head e) =
     record { rest = l; sums = ap (λ (w : A). f w + sum f l) (sym e); others = others }
   where

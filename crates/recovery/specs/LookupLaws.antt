@@ -136,8 +136,8 @@ module _ (area : List ℕ) (S : ℕ) (p : ℕ → Bool) (n : ℕ) (scans : AllSc
         length-take S (drop (x.slot * S) area),
       )
 
-  pub stands_at : stands_at area (place_of S x) ≡ answer x.layout (entry x.entry)
-  stands_at =
+  pub stands_at_lem : stands_at area (place_of S x) ≡ answer x.layout (entry x.entry)
+  stands_at_lem =
       stands-place S area x.slot x.offset x.layout x.entry (log-reads area S p n scans x m)
 
   -- and its kind tells its edition
@@ -187,7 +187,7 @@ module _ (L : Layout) (r : Record) (area cells : List ℕ) (t : Tables) (k : Key
       omega (arith, recovered-keys L r.slots S r.cells area (as_recovered r) genuine.recovers)
 
   pub at_place : (x : Placed) → In x log → stands_at area (place_of S x) ≡ answer x.layout (entry x.entry)
-  at_place x m = stands_at area S (named r.map) r.slots scans x m
+  at_place x m = stands_at_lem area S (named r.map) r.slots scans x m
 
   pub genuine-lookup : holds_table t k.table ≡ true → looked_up L r area cells t k ≡ lookup_for S (present log k)
   unfolding present

@@ -37,7 +37,7 @@ use Rattle.laws.specs.LogLaws.{AllScanned, undamaged-scans, log-in}
 use Rattle.drive_log.specs.Shape.{Shape}
 use Rattle.index.specs.BuildLaws.{log-reads}
 use Rattle.recovery.specs.FormatLaws.{geometry-fits}
-use Rattle.recovery.specs.LookupLaws.{stands_at, placed-layout, ObjectInside}
+use Rattle.recovery.specs.LookupLaws.{stands_at_lem, placed-layout, ObjectInside}
 use Rattle.recovery.specs.Recovering.{image_for, image_of}
 use Rattle.recovery.specs.RecoverPromises.{SoundImage, sound-image, image-scans}
 use Rattle.recovery.specs.declared.Image.{Image}
@@ -126,7 +126,7 @@ module _ (area : List ℕ) (S : ℕ) (p : ℕ → Bool) (n : ℕ) (scans : AllSc
               let place : now.place ≡ place_of S x =
               ap (λ (a : Seen). a.place) newest-is ∙ ap (λ (o : Option Placed). (seen_of S o).place) q ∙ (unfold seen_of in refl) in
               ap (λ (j : ℕ). sought_read j (stands_at area j)) place ∙
-              ap (sought_read (place_of S x)) (stands_at area S p n scans x (latest-some log k x q).member) ∙ entry-sought S x ∙
+              ap (sought_read (place_of S x)) (stands_at_lem area S p n scans x (latest-some log k x q).member) ∙ entry-sought S x ∙
               (unfold present in ap (λ (o : Option Placed). sought_object S (object_only o)) (sym q))
 
   -- ---- where an entry of the log lies

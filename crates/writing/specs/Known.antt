@@ -56,8 +56,8 @@ module _ (L : Layout) (area : List ℕ) (r : Record) (cells : List ℕ) (g : Gen
   stands : (x : Placed) → In x (log_now area r) → entry_at x.layout (segment_of area r.size x.slot) x.offset ≡ entry x.entry
   stands x m = log-reads area r.size (named r.map) r.slots scans x m
 
-  stands_at : (x : Placed) → In x (log_now area r) → stands_at area (place_of r.size x) ≡ answer x.layout (entry x.entry)
-  stands_at x m = stands-place r.size area x.slot x.offset x.layout x.entry (stands x m)
+  stands_at_lem : (x : Placed) → In x (log_now area r) → stands_at area (place_of r.size x) ≡ answer x.layout (entry x.entry)
+  stands_at_lem x m = stands-place r.size area x.slot x.offset x.layout x.entry (stands x m)
 
   few : length (keys_of (log_now area r)) < length cells
   few =
@@ -103,6 +103,6 @@ module _ (L : Layout) (area : List ℕ) (r : Record) (cells : List ℕ) (g : Gen
             let version = sym (ap (λ (o : Option Placed). version_in (object_only o)) e) in
             ap (λ (f : Found). facts_of (presence_at area cells f)) w.1
             ∙ ap (λ (p : ℕ). facts_of (presence_of (stands_at area p))) place
-            ∙ ap (λ (y : Read). facts_of (presence_of y)) (stands_at x (latest-some (log_now area r) k x e).member)
+            ∙ ap (λ (y : Read). facts_of (presence_of y)) (stands_at_lem x (latest-some (log_now area r) k x e).member)
             ∙ entry-facts x.layout x
             ∙ λ i. record { forbidden = false; in-log = has i; absent = absent i; version = version i }

@@ -1,6 +1,4 @@
 -- `kurdavel::kurdavel_read` meets its contract.
-use mathlib.Core.Path.{ap}
-use mathlib.Core.Bool.{not}
 use mathlib.Core.Bool.{true}
 use mathlib.Core.Path.{◌≡◌, refl, sym, ◌∙◌}
 use lib.ListN.{length}
@@ -31,7 +29,7 @@ looked : (c : After-look_at)
     looked_up (decoded a.words.now).rec.edition (decoded a.words.now).rec a.area.now a.index.now (record { first = a.first; last = a.last })
     (record { table = a.table; key = a.key })
 looked c =
-    looked-found _ _ _ _ _ ((sym c.fits.ensures ∙ (ap not c.if-not-fits.false))) ((sym c.holds_table.ensures ∙ (ap not c.if-not-holds_table.false))) c.search-found.ensures c.look_at.ensures
+    looked-found _ _ _ _ _ ((sym c.fits.ensures ∙ c.if-not-fits.false)) ((sym c.holds_table.ensures ∙ c.if-not-holds_table.false)) c.search-found.ensures c.look_at.ensures
 
 pub returns-then-not-fits : goal.returns-then-not-fits
 unfolding told_by

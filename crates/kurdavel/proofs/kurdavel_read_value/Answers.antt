@@ -1,5 +1,4 @@
 -- `kurdavel::kurdavel_read_value` meets its contract.
-use mathlib.Core.Bool.{not}
 use Prim.Native.Nat.{ℕ, ◌+◌, ◌-◌, ◌≤◌}
 use mathlib.Core.Bool.{true}
 use mathlib.Core.Path.{◌≡◌, refl, sym, ◌∙◌, ap}
@@ -33,15 +32,15 @@ looked : (c : After-look_at)
     looked_up (decoded a.words.now).rec.edition (decoded a.words.now).rec a.area.now a.index.now (record { first = a.first; last = a.last })
     (record { table = a.table; key = a.key })
 looked c =
-    looked-found _ _ _ _ _ ((sym c.fits.ensures ∙ (ap not c.if-not-fits.false))) ((sym c.holds_table.ensures ∙ (ap not c.if-not-holds_table.false))) c.search-found.ensures c.look_at.ensures
+    looked-found _ _ _ _ _ ((sym c.fits.ensures ∙ c.if-not-fits.false)) ((sym c.holds_table.ensures ∙ c.if-not-holds_table.false)) c.search-found.ensures c.look_at.ensures
 
 -- the entry of an object that was found lies in the area, whose length is a record's
 inside : (c : In-Object)
     → ObjectInside (layout_of_kind c.in-Object.kind) c.args.area.now c.in-Object.entry c.in-Object.length
-inside c = object-inside _ _ _ _ _ _ _ _ _ _ (sym ((looked-found _ _ _ _ _ ((sym c.fits.ensures ∙ (ap not (ap not c.if-not-fits.false)))) ((sym c.holds_table.ensures ∙ (ap not (ap not c.if-not-holds_table.false)))) c.search-found.ensures c.look_at.ensures)) ∙ c.in-Object.is)
+inside c = object-inside _ _ _ _ _ _ _ _ _ _ (sym ((looked-found _ _ _ _ _ ((sym c.fits.ensures ∙ c.if-not-fits.false)) ((sym c.holds_table.ensures ∙ c.if-not-holds_table.false)) c.search-found.ensures c.look_at.ensures)) ∙ c.in-Object.is)
 
 small : (c : In-Object) → length c.args.area.now ≤ 65536
-small c = found-small _ _ _ _ _ (sym ((looked-found _ _ _ _ _ ((sym c.fits.ensures ∙ (ap not (ap not c.if-not-fits.false)))) ((sym c.holds_table.ensures ∙ (ap not (ap not c.if-not-holds_table.false)))) c.search-found.ensures c.look_at.ensures)) ∙ c.in-Object.is)
+small c = found-small _ _ _ _ _ (sym ((looked-found _ _ _ _ _ ((sym c.fits.ensures ∙ c.if-not-fits.false)) ((sym c.holds_table.ensures ∙ c.if-not-holds_table.false)) c.search-found.ensures c.look_at.ensures)) ∙ c.in-Object.is)
 
 -- the bytes before a value, by the edition that the kind tells
 head-is : (c : After-head_size-head) → c.head_size-head.result ≡ entry_size (layout_of_kind c.in-Object.kind) 0

@@ -26,14 +26,14 @@ at : (c : In-At)
     found_by a.rec.edition a.rec a.area.now (length a.index.now) a.work.now ≡ TellAnswer.At c.in-At.place c.in-At.byte
 at c =
     let a = c.args in
-    sym (told-found _ a.rec a.area.now a.index.now a.work.now ((sym c.fits_lent.ensures ∙ (ap not c.if-not-fits_lent.false))) c.store_of.ensures) ∙ c.in-At.is
+    sym (told-found _ a.rec a.area.now a.index.now a.work.now ((sym c.fits_lent.ensures ∙ c.if-not-fits_lent.false)) c.store_of.ensures) ∙ c.in-At.is
 
 known : (c : In-At)
     → let a = c.args in
-    Found a.rec.edition a.rec a.area.now a.index.now a.work.now ((sym c.fits_lent.ensures ∙ (ap not c.if-not-fits_lent.false))) c.in-At.place c.in-At.byte (at c)
+    Found a.rec.edition a.rec a.area.now a.index.now a.work.now ((sym c.fits_lent.ensures ∙ c.if-not-fits_lent.false)) c.in-At.place c.in-At.byte (at c)
 known c =
     let a = c.args in
-    found-known _ a.rec a.area.now a.index.now a.work.now ((sym c.fits_lent.ensures ∙ (ap not c.if-not-fits_lent.false))) _ _ (at c)
+    found-known _ a.rec a.area.now a.index.now a.work.now ((sym c.fits_lent.ensures ∙ c.if-not-fits_lent.false)) _ _ (at c)
 
 pub returns-then-not-fits_lent : goal.returns-then-not-fits_lent
 returns-then-not-fits_lent c =

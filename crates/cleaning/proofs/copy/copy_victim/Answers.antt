@@ -1,5 +1,4 @@
 -- `cleaning::copy::copy_victim` meets its contract.
-use mathlib.Core.Bool.{not}
 use mathlib.Core.Path.{◌≡◌, sym, ◌∙◌, ap}
 use native.Mathlib.Omega.{arith}
 use lib.ListN.{length}
@@ -37,7 +36,7 @@ alike c =
     let e = c.edition_of-edition.result in
     ap (λ (W : Layout). chosen_slot e W a.area.now a.chosen.now a.split.size a.slot)
     (same_layout_lem e a.into (sym c.same_edition.ensures ∙ c.if-same_edition.true))
-    ∙ (chosen-victim _ _ _ _ _ _ (c.edition_of-edition.ensures ∙ ap layout_in c.cut.ensures) (sym c.is_named.ensures ∙ (ap not c.if-not-is_named.false)))
+    ∙ (chosen-victim _ _ _ _ _ _ (c.edition_of-edition.ensures ∙ ap layout_in c.cut.ensures) (sym c.is_named.ensures ∙ c.if-not-is_named.false))
 
 pub copy_runs-requires : goal.copy_runs-requires
 copy_runs-requires c =

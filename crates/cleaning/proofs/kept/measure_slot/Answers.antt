@@ -30,7 +30,7 @@ place : (c : In-Entry)
     → let a = c.args in
     a.slot * a.split.size + c.loop-header.at < 65536
 place c =
-    place_short c.requires.split_fits.0.slots _ c.requires.slot_lt_slots _ c.cut-s.ensures _ _ (met c).ranges (met c).some_byte
+    place_short c.requires.split_fits.0.slots _ c.requires.slot_lt_slots _ c.cut-s.ensures _ _ (met c).fits (met c).some_byte
 
 -- the entry has a head at least, and lies within the area
 low : (c : In-Entry)
@@ -41,7 +41,7 @@ lies : (c : In-Entry)
     → let a = c.args in
     a.slot * a.split.size + c.loop-header.at + c.in-Entry.header.length ≤ length a.area.now
 lies c =
-    entry-lies c.requires.split_fits.0.slots _ c.requires.slot_lt_slots _ c.cut-s.ensures _ _ (met c).ranges
+    entry-lies c.requires.split_fits.0.slots _ c.requires.slot_lt_slots _ c.cut-s.ensures _ _ (met c).fits
 
 short : (c : After-choose_kept-total) → c.choose_kept-total.result ≤ 2 * c.in-Entry.header.length
 short c =
@@ -50,7 +50,7 @@ short c =
       arith,
       c.choose_kept-total.ensures.0,
       entry-short a.into a.area.now a.cells.now a.marks.now a.edition c.in-Entry.header
-          (a.slot * a.split.size + c.loop-header.at) ((meets-long _ _ _ ((meets _ _ _ _ c.next.ensures _ c.in-Entry.is)))) ((entry-lies c.requires.split_fits.0.slots _ c.requires.slot_lt_slots _ c.cut-s.ensures _ _ ((meets _ _ _ _ c.next.ensures _ c.in-Entry.is)).ranges)),
+          (a.slot * a.split.size + c.loop-header.at) ((meets-long _ _ _ ((meets _ _ _ _ c.next.ensures _ c.in-Entry.is)))) ((entry-lies c.requires.split_fits.0.slots _ c.requires.slot_lt_slots _ c.cut-s.ensures _ _ ((meets _ _ _ _ c.next.ensures _ c.in-Entry.is)).fits)),
     )
 
 pub cut-s-requires : goal.cut-s-requires

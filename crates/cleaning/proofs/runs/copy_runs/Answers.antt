@@ -22,7 +22,7 @@ place : (c : In-Entry)
     → let a = c.args in
     a.slot * a.split.size + c.loop-header.at < 65536
 place c =
-    place_short c.requires.chosen_fits.slots _ c.requires.slot_lt_slots _ c.cut-s.ensures _ _ (met c).ranges (met c).some_byte
+    place_short c.requires.chosen_fits.slots _ c.requires.slot_lt_slots _ c.cut-s.ensures _ _ (met c).fits (met c).some_byte
 
 -- the run that begins with a chosen entry
 the-run : (k : After-run_behind-at)

@@ -20,7 +20,7 @@ place : (c : In-Entry)
     → let a = c.args in
     a.slot * a.split.size + c.loop-header.at < 65536
 place c =
-    place_short c.requires.chosen_fits.slots _ c.requires.slot_lt_slots _ c.cut-s.ensures _ _ (met c).ranges (met c).some_byte
+    place_short c.requires.chosen_fits.slots _ c.requires.slot_lt_slots _ c.cut-s.ensures _ _ (met c).fits (met c).some_byte
 
 pub cut-s-requires : goal.cut-s-requires
 cut-s-requires c = slot-lies c.requires.chosen_fits.slots c.args.slot c.requires.slot_lt_slots

@@ -23,7 +23,7 @@ place : (c : In-Entry)
     → let a = c.args in
     a.slot * a.split.size + c.loop-header.at < 65536
 place c =
-    place_short c.requires.split_fits.slots _ c.requires.slot_lt_slots _ c.cut-s.ensures _ _ (met c).ranges (met c).some_byte
+    place_short c.requires.split_fits.slots _ c.requires.slot_lt_slots _ c.cut-s.ensures _ _ (met c).fits (met c).some_byte
 
 pub cut-s-requires : goal.cut-s-requires
 cut-s-requires c = slot-lies c.requires.split_fits.slots c.args.slot c.requires.slot_lt_slots
@@ -43,7 +43,7 @@ put_entry-to-requires c =
     let a = c.args in let l = c.loop-header in let cut = c.cut-s in let h = c.in-Entry.header in 
     record {
       marks_len = c.requires.split_fits.marks-long;
-      length_in_bounds = entry-lies c.requires.split_fits.slots _ c.requires.slot_lt_slots _ cut.ensures _ _ (met (goal.at.put_entry-to-requires c).In-Entry).ranges;
+      length_in_bounds = entry-lies c.requires.split_fits.slots _ c.requires.slot_lt_slots _ cut.ensures _ _ (met (goal.at.put_entry-to-requires c).In-Entry).fits;
       place_bound = place (goal.at.put_entry-to-requires c).In-Entry;
       edition_bound = meets-long _ _ _ (met (goal.at.put_entry-to-requires c).In-Entry);
       place_in_bounds = copying-room l.invariant c.requires.slot_in_bounds

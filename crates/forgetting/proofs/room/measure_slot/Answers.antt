@@ -27,13 +27,13 @@ place : (c : In-Entry)
     → let a = c.args in
     a.slot * a.split.size + c.loop-header.at < 65536
 place c =
-    place_short c.requires.split_fits.slots _ c.requires.slot_lt_slots _ c.cut-s.ensures _ _ (met c).ranges (met c).some_byte
+    place_short c.requires.split_fits.slots _ c.requires.slot_lt_slots _ c.cut-s.ensures _ _ (met c).fits (met c).some_byte
 
 lies : (c : In-Entry)
     → let a = c.args in
     a.slot * a.split.size + c.loop-header.at + c.in-Entry.header.length ≤ length a.area.now
 lies c =
-    entry-lies c.requires.split_fits.slots _ c.requires.slot_lt_slots _ c.cut-s.ensures _ _ (met c).ranges
+    entry-lies c.requires.split_fits.slots _ c.requires.slot_lt_slots _ c.cut-s.ensures _ _ (met c).fits
 
 short : (c : After-measure_entry-total) → c.measure_entry-total.result ≤ 2 * c.in-Entry.header.length
 short c =
@@ -42,7 +42,7 @@ short c =
       arith,
       c.measure_entry-total.ensures,
       forgot-long a.into a.area.now a.cells.now a.marks.now a.live a.edition c.in-Entry.header
-          (a.slot * a.split.size + c.loop-header.at) ((meets-long _ _ _ ((meets _ _ _ _ c.next.ensures _ c.in-Entry.is)))) ((entry-lies c.requires.split_fits.slots _ c.requires.slot_lt_slots _ c.cut-s.ensures _ _ ((meets _ _ _ _ c.next.ensures _ c.in-Entry.is)).ranges)),
+          (a.slot * a.split.size + c.loop-header.at) ((meets-long _ _ _ ((meets _ _ _ _ c.next.ensures _ c.in-Entry.is)))) ((entry-lies c.requires.split_fits.slots _ c.requires.slot_lt_slots _ c.cut-s.ensures _ _ ((meets _ _ _ _ c.next.ensures _ c.in-Entry.is)).fits)),
     )
 
 pub cut-s-requires : goal.cut-s-requires

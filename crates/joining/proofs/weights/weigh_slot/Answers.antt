@@ -23,7 +23,7 @@ met : (c : In-Entry) → Meets c.args.edition c.cut-s.result.now c.loop-header.a
 met c = meets _ _ _ _ c.next.ensures _ c.in-Entry.is
 
 place : (c : In-Entry) → c.args.slot * c.args.split.size + c.loop-header.at < 65536
-place c = place_short c.requires.slots_fit _ c.requires.slot_lt_slots _ c.cut-s.ensures _ _ (met c).ranges (met c).some_byte
+place c = place_short c.requires.slots_fit _ c.requires.slot_lt_slots _ c.cut-s.ensures _ _ (met c).fits (met c).some_byte
 
 -- a tombstone has no value
 tombstone-long : (c : In-Entry) → c.in-Entry.header.tombstone ≡ true → c.in-Entry.header.length ≡ c.head_size-head.result

@@ -51,7 +51,7 @@ unfolding answered
 at-is b =
     let a = b.args in
     sym ((let a = b.args in
-    front-found a.words.now a.area.now a.work.now (length a.index.now) b.fits.ensures (ap not (ap not b.if-not-fits.false)) (b.found_in.ensures.told a.work.now refl))) ∙ ap (answered a.work.now) b.in-At.is ∙ ap (TellAnswer.At b.in-At.place) (sym b.byte_from.ensures)
+    front-found a.words.now a.area.now a.work.now (length a.index.now) b.fits.ensures (ap not b.if-not-fits.false) (b.found_in.ensures.told a.work.now refl))) ∙ ap (answered a.work.now) b.in-At.is ∙ ap (TellAnswer.At b.in-At.place) (sym b.byte_from.ensures)
 
 pub bounds-area-place : goal.bounds-area-place
 bounds-area-place c = let a = c.args in on-inside a.words.now a.area.now a.work.now (length a.index.now) _ _ (at-is c)

@@ -16,10 +16,12 @@ bounds-area-i c =
     (omega arith) (omega arith)
 
 pub overflow_mul-area : goal.overflow_mul-area
-overflow_mul-area c = omega (arith, room c)
-
-pub bounds-area-i : goal.bounds-area-i
-bounds-area-i c = room c
+overflow_mul-area c =
+    omega (
+      arith,
+      slot-first c.args.n c.args.s c.loop-i.i (length c.loop-i.area) (omega arith)
+      (omega arith) (omega arith),
+    )
 
 pub overflow_add-i : goal.overflow_add-i
 overflow_add-i c = omega arith

@@ -1,17 +1,16 @@
 -- `rigging::check::next_of` meets its contract.
 use native.Mathlib.Omega.{arith}
-use borrow.Author.Tests.{not-true, not-false}
 use Rattle.rig_model.specs.CheckLaws.{next-record, next-log, shape, area-long}
 use Rattle.rigging.proofs.check.next_of.Goals as goal
 
 pub returns-then-not-faulty : goal.returns-then-not-faulty
-returns-then-not-faulty c = rw (not-true c.args.faulty c.if-not-faulty.true) (next-record c.args.area.now c.args.rec c.requires.0)
+returns-then-not-faulty c = rw c.if-not-faulty.true (next-record c.args.area.now c.args.rec c.requires.0)
 
 pub survey-passed-requires : goal.survey-passed-requires
 survey-passed-requires c = shape c.args.area.now (area-long c.args.area.now c.args.rec c.requires.1 c.requires.0)
 
 pub returns-then-limit-highest : goal.returns-then-limit-highest
-returns-then-limit-highest c = rw (not-false c.args.faulty c.if-not-faulty.false) (next-log c.args.area.now c.args.rec c.requires.0 c.survey-passed.result.sound c.survey-passed.result.highest.0 c.survey-passed.result.apart c.survey-passed.ensures _ (omega arith))
+returns-then-limit-highest c = rw c.if-not-faulty.false (next-log c.args.area.now c.args.rec c.requires.0 c.survey-passed.result.sound c.survey-passed.result.highest.0 c.survey-passed.result.apart c.survey-passed.ensures _ (omega arith))
 
 pub returns : goal.returns
-returns c = rw (not-false c.args.faulty c.if-not-faulty.false) (next-log c.args.area.now c.args.rec c.requires.0 c.survey-passed.result.sound c.survey-passed.result.highest.0 c.survey-passed.result.apart c.survey-passed.ensures _ (omega arith))
+returns c = rw c.if-not-faulty.false (next-log c.args.area.now c.args.rec c.requires.0 c.survey-passed.result.sound c.survey-passed.result.highest.0 c.survey-passed.result.apart c.survey-passed.ensures _ (omega arith))
