@@ -12,10 +12,10 @@ ends : (c : After-end_of-end)
     → let a = c.args in c.end_of-end.result ≡ end_of (scan a.edition (segment_of a.area.now a.s a.slot))
 ends c = c.end_of-end.ensures ∙ ap (λ (l : List ℕ). end_of (scan c.args.edition l)) c.cut.ensures
 
-pub overflow_cast-result : goal.overflow_cast-result
-overflow_cast-result c =
+pub overflow_cast-result-2 : goal.overflow_cast-result-2
+overflow_cast-result-2 c =
     let a = c.args in
-    omega (arith, ends (goal.at.overflow_cast-result c).After-end_of-end, end_fits a.edition a.area.now a.s a.slot c.requires.0)
+    omega (arith, ends (goal.at.overflow_cast-result-2 c).After-end_of-end, end_fits a.edition a.area.now a.s a.slot c.requires.0)
 
 pub returns : goal.returns
 returns c = record-with _ _ _ _ _ _ _ _ _ _ _ _ (ends (goal.at.returns c).After-end_of-end) c.next_version-next.ensures
