@@ -2,7 +2,6 @@
 use mathlib.Core.Bool.{not}
 use mathlib.Core.Path.{ap}
 use borrow.Author.Tests.{eq-eqb, ne_eqb}
-use Rattle.model.specs.Refused.{numbers_spent}
 use Rattle.writing.specs.TestLaws.{full-long, full-spent, full-left}
 use Rattle.writing.proofs.full.check_full.Goals as goal
 
@@ -10,9 +9,7 @@ pub returns-then-not-fits : goal.returns-then-not-fits
 returns-then-not-fits c = full-long c.args.rec c.args.fits (ap not c.if-not-fits.true)
 
 pub returns-then-spent : goal.returns-then-spent
-unfolding numbers_spent
 returns-then-spent c = full-spent c.args.rec c.args.fits (ap not c.if-not-fits.false) (eq-eqb _ _ c.if-spent.true)
 
 pub returns : goal.returns
-unfolding numbers_spent
 returns c = full-left c.args.rec c.args.fits (ap not c.if-not-fits.false) (ne_eqb _ _ c.if-spent.false)
