@@ -1,6 +1,7 @@
 // What an item lends to recovery: the area, the index of M cells, and the order list.
 use crate::bundle::Header;
 use crate::{bundle, lines, outcome};
+use std::io;
 
 // What an area holds where nothing was stored. A run of it reads as tombstones that share a version, so that a reader who
 // passes an end is found out.
@@ -10,10 +11,16 @@ const JUNK: u8 = 4;
 const LONGEST: usize = 65537;
 
 // The recovery with an index of M cells.
-fn with_index(h: Header, order: &[u8], area: &[u8], keys: &[u8]) {
+fn with_index(
+    rt: &impl Print,
+    h: Header,
+    order: &[u8],
+    area: &[u8],
+    keys: &[u8],
+) -> io::Result<()> {
     let mut cells = [outcome::OLD; 65535];
     let m = h.cells as usize;
-    outcome::of_image(h, order, area, &mut cells[0..m], keys);
+    outcome::of_image(rt, h, order, area, &mut cells[0..m], keys)
 }
 
 // A byte of an area, if it has that place.
@@ -33,34 +40,48 @@ fn lay(area: &mut [u8], stored: &[u8]) {
 }
 
 // The recovery of an area once its stored bytes are in place.
-fn of_stored(h: Header, order: &[u8], area: &mut [u8], stored: &[u8], keys: &[u8]) {
+fn of_stored(
+    rt: &impl Print,
+    h: Header,
+    order: &[u8],
+    area: &mut [u8],
+    stored: &[u8],
+    keys: &[u8],
+) -> io::Result<()> {
     lay(area, stored);
-    with_index(h, order, area, keys);
+    with_index(rt, h, order, area, keys)
 }
 
 // The recovery of an area that is stored in part; one that is too long is passed over.
-fn with_area(h: Header, order: &[u8], stored: &[u8], keys: &[u8]) {
+fn with_area(
+    rt: &impl Print,
+    h: Header,
+    order: &[u8],
+    stored: &[u8],
+    keys: &[u8],
+) -> io::Result<()> {
     let mut area = [JUNK; LONGEST];
     let length = h.area as usize;
     if length <= LONGEST {
-        of_stored(h, order, &mut area[0..length], stored, keys);
+        of_stored(rt, h, order, &mut area[0..length], stored, keys)?;
     }
+    Ok(())
 }
 
 // An item that lacks a part is passed over.
-pub fn of_item(item: &[u8]) {
+pub fn of_item(rt: &impl Print, item: &[u8]) -> io::Result<()> {
     if item.len() < bundle::HEADER {
-        return;
+        return Ok(());
     }
     let h = bundle::header_of(item);
     if item.len() < bundle::item_length(h) {
-        return;
+        return Ok(());
     }
     let rest = bundle::after(item, bundle::HEADER);
-    lines::text(bundle::first(rest, h.name as usize));
+    lines::text(rt, bundle::first(rest, h.name as usize))?;
     let rest = bundle::after(rest, h.name as usize);
     let order = bundle::first(rest, h.order as usize);
     let rest = bundle::after(rest, h.order as usize);
     let stored = bundle::first(rest, h.stored as usize);
-    with_area(h, order, stored, bundle::after(rest, h.stored as usize));
+    with_area(rt, h, order, stored, bundle::after(rest, h.stored as usize))
 }

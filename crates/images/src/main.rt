@@ -3,6 +3,7 @@
 #![tactic(auto)]
 
 use bundle::item_end;
+use std::io;
 
 mod bundle;
 mod lent;
@@ -10,17 +11,18 @@ mod lines;
 mod outcome;
 
 // The items, one after the other.
-fn items(bundle: &[u8]) {
+fn items(rt: &impl Print, bundle: &[u8]) -> io::Result<()> {
     let mut at = 0;
     while at < bundle.len() {
         let end = item_end(bundle, at);
-        lent::of_item(&bundle[at..end]);
+        lent::of_item(rt, &bundle[at..end])?;
         at = end;
     }
+    Ok(())
 }
 
-fn main() {
+fn main(rt: HostRuntime) -> io::Result<()> {
     let mut input = [0; 262144];
-    let n = io::read_full(0, &mut input);
-    items(&input[..n]);
+    let n = reading::read_full(&rt, &mut input)?;
+    items(&rt, &input[..n])
 }

@@ -6,6 +6,7 @@ use crate::bundle::Header;
 use crate::{bundle, lines};
 use record::{ReadAnswer, Record, RecoverAnswer, Tables};
 use segment::Key;
+use std::io;
 use store::{read, read_value, recover};
 
 // What every cell holds before a recovery: it leads to the first entry of slot 0, and no cell is 0.
@@ -26,22 +27,20 @@ fn all_are(index: &[u32], cell: u32) -> bool
 }
 
 // The number of a refusal and what it left of the index.
-fn refused(number: u32, index: &[u32]) {
-    lines::field(b": refused ", number);
+fn refused(rt: &impl Print, number: u32, index: &[u32]) -> io::Result<()> {
+    lines::field(rt, b": refused ", number)?;
     if all_are(index, OLD) {
-        lines::text(b" kept\n");
-        return;
+        return lines::text(rt, b" kept\n");
     }
     if all_are(index, 0) {
-        lines::text(b" zeros\n");
-        return;
+        return lines::text(rt, b" zeros\n");
     }
-    lines::text(b" changed\n");
+    lines::text(rt, b" changed\n")
 }
 
 // What both reads of a key answer.
-fn read_line(rec: Record, area: &[u8], index: &[u32], key: Key) {
-    lines::key(key);
+fn read_line(rt: &impl Print, rec: Record, area: &[u8], index: &[u32], key: Key) -> io::Result<()> {
+    lines::key(rt, key)?;
     let tables = Tables {
         first: 0,
         last: 65535,
@@ -51,36 +50,44 @@ fn read_line(rec: Record, area: &[u8], index: &[u32], key: Key) {
     let answer = reading.answer;
     match answer {
         ReadAnswer::Present { version, kind } => {
-            lines::version(b" version ", version);
-            lines::field(b" kind ", kind as u32);
+            lines::version(rt, b" version ", version)?;
+            lines::field(rt, b" kind ", kind as u32)?;
         }
         ReadAnswer::Refused(cause) => {
-            lines::field(b" refused ", record::number(cause));
+            lines::field(rt, b" refused ", record::number(cause))?;
         }
     }
-    lines::text(b" value");
-    lines::value(value);
+    lines::text(rt, b" value")?;
+    lines::value(rt, value)
 }
 
 // A line for each key of the list.
-fn reads(rec: Record, area: &[u8], index: &[u32], keys: &[u8]) {
+fn reads(rt: &impl Print, rec: Record, area: &[u8], index: &[u32], keys: &[u8]) -> io::Result<()> {
     let mut at = 0;
     while bundle::KEY <= keys.len() - at {
-        read_line(rec, area, index, bundle::key_at(keys, at));
+        read_line(rt, rec, area, index, bundle::key_at(keys, at))?;
         at += bundle::KEY;
     }
+    Ok(())
 }
 
 // What comes of an image: the refusal, or the record and the reads.
-pub fn of_image(h: Header, order: &[u8], area: &[u8], index: &mut [u32], keys: &[u8]) {
+pub fn of_image(
+    rt: &impl Print,
+    h: Header,
+    order: &[u8],
+    area: &[u8],
+    index: &mut [u32],
+    keys: &[u8],
+) -> io::Result<()> {
     let recovery = recover(h.slots as u32, h.size as u32, order, area, index);
     let answer = recovery.answer;
     let rec = recovery.rec;
     match answer {
-        RecoverAnswer::Refused(cause) => refused(record::number(cause), index),
+        RecoverAnswer::Refused(cause) => refused(rt, record::number(cause), index),
         RecoverAnswer::Recovered => {
-            lines::record(rec);
-            reads(rec, area, index, keys);
+            lines::record(rt, rec)?;
+            reads(rt, rec, area, index, keys)
         }
     }
 }

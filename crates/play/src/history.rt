@@ -2,6 +2,7 @@
 ghost use Rattle.std.specs.Prelude.{◌≡◌, ◌<◌};
 
 use crate::book::Value;
+use crate::lines::Output;
 use crate::operations::Played;
 use crate::{lines, memory, operations};
 
@@ -270,16 +271,17 @@ fn failing(played: Played, fails: u32) -> Played
     Played { rec, book, fails }
 }
 
-fn heading(played: Played, case: u32) -> Played
+fn heading<R: Print>(out: &mut Output<'_, R>, played: Played, case: u32) -> Played
     ensures { result ≡ played }
 {
-    lines::field(b"case ", case);
-    lines::text(b"\n");
+    lines::field(out, b"case ", case);
+    lines::text(out, b"\n");
     played
 }
 
 // What an event does.
-pub fn happens(
+pub fn happens<R: Print>(
+    out: &mut Output<'_, R>,
     event: Event,
     played: Played,
     area: &mut [u8; 1024],
@@ -287,21 +289,21 @@ pub fn happens(
     work: &mut [u8; 256],
 ) -> Played {
     match event {
-        Event::Case(n) => heading(played, n),
-        Event::Format => memory::fresh(area, index),
-        Event::Spread => memory::spread(area, index),
+        Event::Case(n) => heading(out, played, n),
+        Event::Format => memory::fresh(out, area, index),
+        Event::Spread => memory::spread(out, area, index),
         Event::Write(number, length, first, rise) => {
             let value = Value {
                 length,
                 first,
                 rise,
             };
-            operations::write_key(played, area, index, work, number, value)
+            operations::write_key(out, played, area, index, work, number, value)
         }
-        Event::Delete(number) => operations::delete_key(played, area, index, work, number),
-        Event::Clean(victims) => operations::clean_slots(played, area, index, work, victims),
-        Event::Join => operations::join_slots(played, area, index, work),
+        Event::Delete(number) => operations::delete_key(out, played, area, index, work, number),
+        Event::Clean(victims) => operations::clean_slots(out, played, area, index, work, victims),
+        Event::Join => operations::join_slots(out, played, area, index, work),
         Event::Fails(n) => failing(played, n),
-        Event::Recover => memory::power_on(area, index, played.book),
+        Event::Recover => memory::power_on(out, area, index, played.book),
     }
 }

@@ -2,6 +2,9 @@
 // recovery as a cut would leave it, and what it gives is compared with the book of the history.
 #![tactic(auto)]
 
+use lines::Output;
+use std::io;
+
 mod book;
 mod history;
 mod lines;
@@ -9,15 +12,15 @@ mod memory;
 mod operations;
 mod reads;
 
-fn main() {
+fn main(rt: HostRuntime) -> io::Result<()> {
+    let mut out = Output::new(&rt);
     let mut area = [0; 1024];
     let mut index = [0; 16];
     let mut work = [0xee; 256];
-    let mut played = memory::fresh(&mut area, &mut index);
-    let mut i = 0;
-    while i < history::EVENTS {
+    let mut played = memory::fresh(&mut out, &mut area, &mut index);
+    for i in 0..history::EVENTS {
         let event = history::scheduled(i);
-        played = history::happens(event, played, &mut area, &mut index, &mut work);
-        i += 1;
+        played = history::happens(&mut out, event, played, &mut area, &mut index, &mut work);
     }
+    out.end()
 }

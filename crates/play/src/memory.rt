@@ -4,6 +4,7 @@ ghost use Rattle.play.specs.Book.{empty_book, powered_on};
 ghost use Rattle.play.specs.Values.{rising};
 
 use crate::book::{Book, Value};
+use crate::lines::Output;
 use crate::operations::Played;
 use crate::{book, lines, reads};
 use segment::Version;
@@ -61,7 +62,12 @@ pub fn value_bytes(value: Value) -> [u8; LONGEST]
 }
 
 // A recovery after the supply failed, which lost the index.
-pub fn power_on(area: &[u8; 1024], index: &mut [u32; 16], book: Book) -> Played
+pub fn power_on<R: Print>(
+    out: &mut Output<'_, R>,
+    area: &[u8; 1024],
+    index: &mut [u32; 16],
+    book: Book,
+) -> Played
     ensures { result ≡ powered_on area.now book }
 {
     spoil(index);
@@ -69,7 +75,7 @@ pub fn power_on(area: &[u8; 1024], index: &mut [u32; 16], book: Book) -> Played
     let rec = recovery.rec;
     let next = rec.next;
     let agrees = reads::agrees(rec, area, index, book);
-    lines::version_compared(b"recovery: next version ", next, agrees);
+    lines::version_compared(out, b"recovery: next version ", next, agrees);
     Played {
         rec,
         book,
@@ -78,18 +84,26 @@ pub fn power_on(area: &[u8; 1024], index: &mut [u32; 16], book: Book) -> Played
 }
 
 // An area of old bytes, formatted and recovered. The contract leaves free what the area then holds.
-pub fn fresh(area: &mut [u8; 1024], index: &mut [u32; 16]) -> Played
+pub fn fresh<R: Print>(
+    out: &mut Output<'_, R>,
+    area: &mut [u8; 1024],
+    index: &mut [u32; 16],
+) -> Played
     ensures { result ≡ powered_on area.new (empty_book (record { 0 = 1 })) }
 {
     fill(area, 0xaa);
     format(SLOTS, SIZE, 1, area);
-    lines::bytes(b"format:", area, 14);
-    power_on(area, index, book::empty(Version(1)))
+    lines::bytes(out, b"format:", area, 14);
+    power_on(out, area, index, book::empty(Version(1)))
 }
 
 // Case 8: an old object of a key in slot 0, a newer one and its tombstone in the head, slot 1. The contract leaves free what
 // the area then holds.
-pub fn spread(area: &mut [u8; 1024], index: &mut [u32; 16]) -> Played
+pub fn spread<R: Print>(
+    out: &mut Output<'_, R>,
+    area: &mut [u8; 1024],
+    index: &mut [u32; 16],
+) -> Played
     ensures { result ≡ powered_on area.new (empty_book (record { 0 = 4 })) }
 {
     fill(area, 0xff);
@@ -103,5 +117,5 @@ pub fn spread(area: &mut [u8; 1024], index: &mut [u32; 16]) -> Played
         256,
         b"\x05\x02\0\0\0\x03\0\0\0\x02\0\0\0\x01\x07\0\x09\0\0\0\x02\0\0\0\x12\x12\x12\x12\x12\x12\x12\x12\x04\x07\0\x09\0\0\0\x03\0\0\0\0",
     );
-    power_on(area, index, book::empty(Version(4)))
+    power_on(out, area, index, book::empty(Version(4)))
 }

@@ -7,6 +7,7 @@ ghost use Rattle.play.specs.Book.{played};
 ghost use Rattle.play.specs.Answers.{step_says, work_bytes, first_bad, not_made};
 
 use crate::book::{Book, Value};
+use crate::lines::Output;
 use crate::{book, lines, memory, reads};
 use record::{JoinAnswer, Pending, Record, Start, StartAnswer, StepAnswer, Tables};
 use segment::Version;
@@ -81,7 +82,8 @@ fn noted(bad: u32, made: u32, agrees: bool) -> u32
 }
 
 // Steps of an operation that has so many stores, until `rest` are left, to the end of its line.
-fn steps(
+fn steps<R: Print>(
+    out: &mut Output<'_, R>,
     rec: Record,
     area: &mut [u8; 1024],
     index: &mut [u32; 16],
@@ -105,7 +107,7 @@ fn steps(
             step_agrees(answer, after, area, index, left, due),
         );
     }
-    lines::cuts(stores - left, bad);
+    lines::cuts(out, stores - left, bad);
     rec
 }
 
@@ -138,10 +140,18 @@ fn work_bytes(rec: Record) -> u32
 }
 
 // A refused start, which changes nothing.
-fn refused(rec: Record, area: &[u8; 1024], index: &[u32; 16], number: u32, book: Book) -> Played
+fn refused<R: Print>(
+    out: &mut Output<'_, R>,
+    rec: Record,
+    area: &[u8; 1024],
+    index: &[u32; 16],
+    number: u32,
+    book: Book,
+) -> Played
     ensures { result ≡ played rec book }
 {
     lines::compared(
+        out,
         b": refused ",
         number,
         reads::both_agree(rec, area, index, book),
@@ -167,7 +177,8 @@ fn unmade(stores: u32, fails: u32) -> u32
 }
 
 // An accepted operation. Its work bytes come on a line of their own; where the supply failed a recovery comes next.
-fn accepted(
+fn accepted<R: Print>(
+    out: &mut Output<'_, R>,
     rec: Record,
     area: &mut [u8; 1024],
     index: &mut [u32; 16],
@@ -179,10 +190,10 @@ fn accepted(
     let rest = unmade(stores, due.fails);
     let book = book_at(rest, due);
     let version = due.version;
-    lines::field(b": ", stores);
-    lines::version(b" stores, version ", version);
-    let rec = steps(rec, area, index, work, stores, rest, due);
-    lines::bytes(b" ", work, count as usize);
+    lines::field(out, b": ", stores);
+    lines::version(out, b" stores, version ", version);
+    let rec = steps(out, rec, area, index, work, stores, rest, due);
+    lines::bytes(out, b" ", work, count as usize);
     if due.fails == 0 {
         return Played {
             rec,
@@ -190,12 +201,13 @@ fn accepted(
             fails: 0,
         };
     }
-    lines::cut(due.fails);
-    memory::power_on(area, index, book)
+    lines::cut(out, due.fails);
+    memory::power_on(out, area, index, book)
 }
 
 // An operation from its start on.
-fn run(
+fn run<R: Print>(
+    out: &mut Output<'_, R>,
     start: Start,
     area: &mut [u8; 1024],
     index: &mut [u32; 16],
@@ -206,12 +218,13 @@ fn run(
     let rec = start.rec;
     let book = due.before;
     match answer {
-        StartAnswer::Refused(cause) => refused(rec, area, index, record::number(cause), book),
-        StartAnswer::Started(stores) => accepted(rec, area, index, work, stores, due),
+        StartAnswer::Refused(cause) => refused(out, rec, area, index, record::number(cause), book),
+        StartAnswer::Started(stores) => accepted(out, rec, area, index, work, stores, due),
     }
 }
 
-pub fn write_key(
+pub fn write_key<R: Print>(
+    out: &mut Output<'_, R>,
     played: Played,
     area: &mut [u8; 1024],
     index: &mut [u32; 16],
@@ -224,7 +237,7 @@ pub fn write_key(
     let key = book::key(number);
     let bytes = memory::value_bytes(value);
     let length = memory::at_most(memory::LONGEST, value.length);
-    lines::operation(b"write", key);
+    lines::operation(out, b"write", key);
     let tables = Tables {
         first: 0,
         last: 65535,
@@ -237,10 +250,11 @@ pub fn write_key(
         after: book::written(before, number, value),
         fails: played.fails,
     };
-    run(start, area, index, work, due)
+    run(out, start, area, index, work, due)
 }
 
-pub fn delete_key(
+pub fn delete_key<R: Print>(
+    out: &mut Output<'_, R>,
     played: Played,
     area: &mut [u8; 1024],
     index: &mut [u32; 16],
@@ -250,7 +264,7 @@ pub fn delete_key(
     let rec = played.rec;
     let before = played.book;
     let key = book::key(number);
-    lines::operation(b"delete", key);
+    lines::operation(out, b"delete", key);
     let tables = Tables {
         first: 0,
         last: 65535,
@@ -263,11 +277,12 @@ pub fn delete_key(
         after: book::deleted(before, number),
         fails: played.fails,
     };
-    run(start, area, index, work, due)
+    run(out, start, area, index, work, due)
 }
 
 // A cleaning changes nothing that the book has, and its version is 0.
-pub fn clean_slots(
+pub fn clean_slots<R: Print>(
+    out: &mut Output<'_, R>,
     played: Played,
     area: &mut [u8; 1024],
     index: &mut [u32; 16],
@@ -276,7 +291,7 @@ pub fn clean_slots(
 ) -> Played {
     let rec = played.rec;
     let book = played.book;
-    lines::field(b"clean ", victims);
+    lines::field(out, b"clean ", victims);
     let start = clean(rec, area, index, work, victims);
     let due = Due {
         version: Version(0),
@@ -284,7 +299,7 @@ pub fn clean_slots(
         after: book,
         fails: played.fails,
     };
-    run(start, area, index, work, due)
+    run(out, start, area, index, work, due)
 }
 
 // A map with a slot more; a slot that no map names is left out.
@@ -296,7 +311,8 @@ fn with(map: u32, slot: u32) -> u32 {
 }
 
 // The two slots that one new head can take over are told and cleaned.
-pub fn join_slots(
+pub fn join_slots<R: Print>(
+    out: &mut Output<'_, R>,
     played: Played,
     area: &mut [u8; 1024],
     index: &mut [u32; 16],
@@ -307,14 +323,14 @@ pub fn join_slots(
     let answer = joined.answer;
     match answer {
         JoinAnswer::Pair { first, second } => {
-            lines::field(b"join ", first);
-            lines::field(b" ", second);
-            lines::text(b"\n");
-            clean_slots(played, area, index, work, with(with(0, first), second))
+            lines::field(out, b"join ", first);
+            lines::field(out, b" ", second);
+            lines::text(out, b"\n");
+            clean_slots(out, played, area, index, work, with(with(0, first), second))
         }
         JoinAnswer::Refused(cause) => {
-            lines::field(b"join: refused ", record::number(cause));
-            lines::text(b"\n");
+            lines::field(out, b"join: refused ", record::number(cause));
+            lines::text(out, b"\n");
             played
         }
     }

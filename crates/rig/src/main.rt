@@ -2,11 +2,12 @@
 #![tactic(auto)]
 
 use rigging::ROOM;
+use std::io;
 
-fn main() {
+fn main(rt: HostRuntime) -> io::Result<()> {
     let mut input = [0; 2];
     let mut out = [0; ROOM];
-    let given = io::read_full(0, &mut input);
+    let given = reading::read_full(&rt, &mut input)?;
     let end = rigging::rig(&input[..given], &mut out, false);
-    io::write_all(1, &out[..end]);
+    rt.write_all(&out[..end])
 }
