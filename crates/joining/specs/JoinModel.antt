@@ -112,12 +112,14 @@ module _ (w : ℕ → ℕ) where
 -- ---- the items of a scan
 
 scans-above : {L : Layout} {s : List ℕ} {at e : ℕ} {is : List Item} {i : Item} → Scans L s at is e → In i is → at ≤ i.offset
+scans-above {L = L} {s = s} {i = i} (done {at = at} _) m = elim m [ ]
 scans-above (more x p r) (Memᴰ.head q) = omega (arith, ap (λ (j : Item). j.offset) q)
 scans-above (more x p r) (Memᴰ.tail m) = omega (arith, scans-above r m)
 
 -- of two items the one behind starts where the other one ends, or later
 scans-apart : {L : Layout} {s : List ℕ} {at e : ℕ} {is : List Item} {i j : Item} → Scans L s at is e → In i is → In j is → i.offset < j.offset →
     i.offset + entry_size L 0 ≤ j.offset
+scans-apart {L = L} {s = s} {i = i} {j = j} (done {at = at} _) m _ l = elim m [ ]
 scans-apart (more x p r) (Memᴰ.head a) (Memᴰ.head b) l =
     absurd (omega (arith, ap (λ (k : Item). k.offset) a, ap (λ (k : Item). k.offset) b))
 scans-apart (more x p r) (Memᴰ.head a) (Memᴰ.tail n) l = omega (arith, ap (λ (k : Item). k.offset) a, scans-above r n)

@@ -67,6 +67,7 @@ low-high c y = go (ltb c y) refl
 
 pub carried-only : (c : ℕ) (xs : List ℕ) (z : ℕ) → In z (carried c xs) → (z ≡ c) ⊎ In z xs
 unfolding carried
+carried-only c [] z (Memᴰ.tail m) = elim m [ ]
 carried-only c [] z (Memᴰ.head e) = inl e
 carried-only c (y ∷ ys) z (Memᴰ.head e) = go (low-high c y)
   where

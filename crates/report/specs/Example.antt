@@ -29,7 +29,7 @@ unfolding opened digits_in before in_order ascending present_of line_of lines_of
 kind-7 = refl
 
 -- A key that is written anew stands once, and one that is deleted does not stand.
-in_order :
+in_order_lem :
     after
     (write (keyed 2 1) (replicate 8 1)
     ∷ write (keyed 1 4294967295) (replicate 8 2)
@@ -40,7 +40,7 @@ in_order :
     ∷ [])
     ≡ ascii "next 7 digest 1 keys 3\n1 4294967295 2 1\n2 0 4 3\n2 1 6 2\n"
 unfolding opened digits_in before in_order ascending present_of line_of lines_of text_unless area_text dump_text
-in_order = refl
+in_order_lem = refl
 
 -- a head in slot 0 with this number, map and next version, and no other digest
 abbrev head : (number map next : ℕ) → List ℕ

@@ -63,6 +63,7 @@ ranks ks = map rank ks
 
 order-only : (k : Key) (js : List Key) (j : Key) → In j (in_order k js) → (j ≡ k) ⊎ In j js
 unfolding in_order pick
+order-only k [] j (Memᴰ.tail m) = elim m [ ]
 order-only k [] j (Memᴰ.head e) = inl e
 order-only k (i ∷ is) j m = go (before k i) m (order-only k is j)
   where
@@ -166,6 +167,7 @@ module _ (log : List Placed) where
 
   present-all : (ks : List Key) (k : Key) → In k ks → key_absent log k ≡ false → In k (present_of log ks)
   unfolding present_of pick
+  present-all [] k m e = elim m [ ]
   present-all (j ∷ js) k (Memᴰ.head q) e = go (key_absent log j) refl
     where
       go : (t : Bool) → key_absent log j ≡ t → In k (pick t (present_of log js) (j ∷ present_of log js))

@@ -19,10 +19,10 @@ pub digest-requires : goal.digest-requires
 digest-requires c = digest-room _ c.requires.part_value.1
 
 pub write_digest-requires : goal.write_digest-requires
-write_digest-requires c = let a = c.args in omega (arith, length-part_bytes a.from a.to a.part.now, (c.requires.part_len_bound, c.requires.s_in_bounds))
+write_digest-requires c = let a = c.args in omega (arith, length-part_bytes a.from a.to a.part.now)
 
 pub overflow_add-start : goal.overflow_add-start
-overflow_add-start c = let a = c.args in omega (arith, length-part_bytes a.from a.to a.part.now, (c.requires.part_len_bound, c.requires.s_in_bounds), c.digest_size.ensures)
+overflow_add-start c = let a = c.args in omega (arith, length-part_bytes a.from a.to a.part.now, c.digest_size.ensures)
 
 -- what the digest and the entries leave
 wrote : (c : After-write_digest)

@@ -57,7 +57,7 @@ pub loop-header-smaller-then-header : goal.loop-header-smaller-then-header
 loop-header-smaller-then-header c = omega (arith, tombstone-long (goal.at.loop-header-smaller-then-header c).In-Entry c.if-header.true, (met (goal.at.loop-header-smaller-then-header c).In-Entry).fits)
 
 pub loop-header-preserved-then-header : goal.loop-header-preserved-then-header
-loop-header-preserved-then-header c = noting-tombstone _ _ _ _ _ _ _ _ _ _ _ _ (c.loop-header.invariant W e) (met (goal.at.loop-header-preserved-then-header c).In-Entry) c.if-header.true _ _ c.head_size-head.ensures e
+loop-header-preserved-then-header c W e = noting-tombstone _ _ _ _ _ _ _ _ _ _ _ _ (c.loop-header.invariant W e) (met (goal.at.loop-header-preserved-then-header c).In-Entry) c.if-header.true _ _ c.head_size-head.ensures e
 
 pub overflow_sub-header : goal.overflow_sub-header
 overflow_sub-header c = omega (arith, head-short (goal.at.overflow_sub-header c).In-Entry)
@@ -104,7 +104,7 @@ pub loop-header-smaller : goal.loop-header-smaller
 loop-header-smaller c = omega (arith, met (goal.at.loop-header-smaller c).In-Entry)
 
 pub loop-header-preserved : goal.loop-header-preserved
-loop-header-preserved c =
+loop-header-preserved c W e =
     noting-object _ _ _ _ _ _ _ _ _ _ _ _ (c.loop-header.invariant W e) (met (goal.at.loop-header-preserved c).In-Entry) c.if-header.false _ _ c.head_size-head.ensures e _ _ c.note_key-objects.ensures
 
 pub shape_of-notes-in-End : goal.shape_of-notes-in-End

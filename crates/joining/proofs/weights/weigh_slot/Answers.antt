@@ -82,7 +82,7 @@ pub loop-header-smaller-then-header : goal.loop-header-smaller-then-header
 loop-header-smaller-then-header c = omega (arith, tombstone-long (goal.at.loop-header-smaller-then-header c).In-Entry c.if-header.true, (met (goal.at.loop-header-smaller-then-header c).In-Entry).fits)
 
 pub loop-header-preserved-then-header : goal.loop-header-preserved-then-header
-loop-header-preserved-then-header c =
+loop-header-preserved-then-header c W e =
     weighing-tombstone _ _ _ _ _ _ _ _ _ _ _ (c.loop-header.invariant W e) (met (goal.at.loop-header-preserved-then-header c).In-Entry) c.if-header.true _ _ c.head_size-head.ensures e _
     c.note_share-share.ensures (row (goal.at.loop-header-preserved-then-header c).At-loop-header) _ _ c.add_share-total.ensures
 
@@ -100,7 +100,7 @@ pub loop-header-smaller : goal.loop-header-smaller
 loop-header-smaller c = omega (arith, met (goal.at.loop-header-smaller c).In-Entry, c.behind-at.ensures.forward, c.behind-at.ensures.inside)
 
 pub loop-header-preserved : goal.loop-header-preserved
-loop-header-preserved c =
+loop-header-preserved c W e =
     weighing-passed _ _ _ _ _ _ _ _ _ _ _
     (weighing-object _ _ _ _ _ _ _ _ _ _ _ (c.loop-header.invariant W e) (met (goal.at.loop-header-preserved c).In-Entry) c.if-header.false (row (goal.at.loop-header-preserved c).At-loop-header)) _ c.behind-at.ensures
 
