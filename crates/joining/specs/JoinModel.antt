@@ -31,7 +31,7 @@ use Rattle.model.specs.Joining.{pair_of, join_fits, join_pair, lowest_pair}
 use Rattle.laws.specs.Members.{clash, In, first, Within}
 use Rattle.laws.specs.LogLaws.{any_below, part_of, part-picked, part-passed, placed_at, mem-placed, in-log, item_of, log-in, scan-whole}
 use Rattle.laws.specs.Latest.{Newest, own_key, same_key_lem, latest-some}
-use Rattle.laws.specs.Scans.{Scans, more, scan-scans}
+use Rattle.laws.specs.Scans.{done, Scans, more, scan-scans}
 use Rattle.laws.specs.Stores.{slots_apart}
 use Rattle.index.specs.Search.{search_for}
 use Rattle.index.specs.SearchLaws.{search-inside}
