@@ -47,7 +47,7 @@ use Rattle.laws.specs.RecoverLaws.{recovered-edition}
 use Rattle.joining.specs.PairLaws.{Joins, pair-given, pair-none}
 use Rattle.history.specs.Book.{joins, starts, steps, asks, Answer, saying, pairing, called, accepted, Book, fresh_book, feed, book_of, version_told, highest_told}
 use Rattle.history.specs.Editions.{Editions, formatted_in, editions_after, editions_behind}
-use Rattle.history.specs.Runs.{Held, World, held_after, Asked, join, Moves, start, step, ask}
+use Rattle.history.specs.Runs.{Held, World, held_after, Asked, join, look, Moves, start, step, ask}
 use Rattle.history.proofs.Invariant.{Inv, Holding, HeldGood, idle-same, held-promise}
 use Rattle.history.proofs.Tellings.{started-pending}
 use Rattle.history.proofs.Readings.{held_fits}
@@ -85,6 +85,7 @@ pub record JoinMade (L : Layout) (area : List ℕ) (h : Held) (m : Option ℕ) (
 
 join-made : {n s : ℕ} {area : List ℕ} {h : Held} {m : Option ℕ} {lent : Lengths} {x : Answer} {y : World} →
     Moves n s (at area h m) (called (asks joins) lent x) y → JoinMade h.rec.edition area h m x y
+join-made {n = n} {s = s} {area = area} {h = h} {m = m} {lent = lent} (look q) = elim q [ ]
 join-made (ask (join {a = a} p)) = record { joined = a; promise = p; says = refl; stays = refl }
 
 -- ---- the pair that is told
@@ -602,6 +603,7 @@ module _ (E : Editions) (L : Layout) (n s : ℕ) where
       Moves n s w (called (asks joins) lent a) x → a ≡ pairing (none_said 23) → (i j : ℕ) → i < j → j < n → LogSlots w i j → s ≤ lent'.work →
       Moves n s x (called (starts q (clean (pair_of i j))) lent' a') y → a' ≡ saying (refusal 14)
   unfolding HeldGood
+  no_joins {w = w} {y = y} {lent = lent} {a = a} {q = q} b told inv (look m) says i j l below slots long move = elim m [ ]
   no_joins {q = q} b told inv (ask (join {area = area} {h = h} {m = m} {a = a} p)) says i j l below slots long move =
       let c = start-here E L n s b inv.held move in
       let promise = held-promise E L n s area m b h inv.held (λ (K : Layout). JoinPromise K h.rec area h.cells a) p in
