@@ -41,9 +41,6 @@ pub record Table : Type 0 where
   pub digest_kind : ℕ
   pub tombstone_kind : ℕ
   pub objects : List (ℕ × ℕ)
-  pub sound-digest : both (not (eqb digest_kind 0)) (ltb digest_kind 256) ≡ true
-  pub sound-tombstone : both (not (eqb tombstone_kind 0)) (ltb tombstone_kind 256) ≡ true
-  pub sound-objects : sound_objects tombstone_kind objects objects ≡ true
 
 -- A layout is known by its edition (02, R-11).
 abbrev pub Layout : Type 0
@@ -59,16 +56,12 @@ edition2 = Second
 -- tombstone is 4, a digest 5. Edition 2 (02, R-11) has versions of 8 bytes; the same objects are kinds 9 to 12, a tombstone is 13,
 -- a digest 8.
 unfoldable pub table : Layout → Table
-unfolding both lookup look_back sound_objects is_some pick
 table First =
     record {
       width = 4;
       digest_kind = 5;
       tombstone_kind = 4;
       objects = (1, 8) ∷ (2, 24) ∷ (3, 56) ∷ (7, 120) ∷ [];
-      sound-digest = refl;
-      sound-tombstone = refl;
-      sound-objects = refl;
     }
 table Second =
     record {
@@ -76,10 +69,23 @@ table Second =
       digest_kind = 8;
       tombstone_kind = 13;
       objects = (9, 8) ∷ (10, 24) ∷ (11, 56) ∷ (12, 120) ∷ [];
-      sound-digest = refl;
-      sound-tombstone = refl;
-      sound-objects = refl;
     }
+
+-- No kind of the tables is 0 and each is a byte, and the kinds of object and their lengths are apart.
+pub sound-digest : (L : Layout) → both (not (eqb (table L).digest_kind 0)) (ltb (table L).digest_kind 256) ≡ true
+unfolding table both
+sound-digest First = refl
+sound-digest Second = refl
+
+pub sound-tombstone : (L : Layout) → both (not (eqb (table L).tombstone_kind 0)) (ltb (table L).tombstone_kind 256) ≡ true
+unfolding table both
+sound-tombstone First = refl
+sound-tombstone Second = refl
+
+pub sound-objects : (L : Layout) → sound_objects (table L).tombstone_kind (table L).objects (table L).objects ≡ true
+unfolding table both lookup look_back sound_objects is_some pick
+sound-objects First = refl
+sound-objects Second = refl
 
 -- whether two layouts are one
 unfoldable pub same_layout : Layout → Layout → Bool
@@ -141,15 +147,15 @@ number_limit = 4294967295
 module _ (L : Layout) where
   pub digest-not-end : (table L).digest_kind ≡ 0 → ⊥
   digest-not-end =
-      eqb-false (table L).digest_kind 0 (not-true (eqb (table L).digest_kind 0) (both_left (not (eqb (table L).digest_kind 0)) (ltb (table L).digest_kind 256) (table L).sound-digest))
+      eqb-false (table L).digest_kind 0 (not-true (eqb (table L).digest_kind 0) (both_left (not (eqb (table L).digest_kind 0)) (ltb (table L).digest_kind 256) (sound-digest L)))
 
   pub digest-byte : (table L).digest_kind < 256
-  digest-byte = ltb-true (table L).digest_kind 256 (both_right (not (eqb (table L).digest_kind 0)) (ltb (table L).digest_kind 256) (table L).sound-digest)
+  digest-byte = ltb-true (table L).digest_kind 256 (both_right (not (eqb (table L).digest_kind 0)) (ltb (table L).digest_kind 256) (sound-digest L))
 
   pub tombstone-not-end : (table L).tombstone_kind ≡ 0 → ⊥
   tombstone-not-end =
       eqb-false (table L).tombstone_kind 0
-      (not-true (eqb (table L).tombstone_kind 0) (both_left (not (eqb (table L).tombstone_kind 0)) (ltb (table L).tombstone_kind 256) (table L).sound-tombstone))
+      (not-true (eqb (table L).tombstone_kind 0) (both_left (not (eqb (table L).tombstone_kind 0)) (ltb (table L).tombstone_kind 256) (sound-tombstone L)))
 
   pub tombstone-byte : (table L).tombstone_kind < 256
-  tombstone-byte = ltb-true (table L).tombstone_kind 256 (both_right (not (eqb (table L).tombstone_kind 0)) (ltb (table L).tombstone_kind 256) (table L).sound-tombstone)
+  tombstone-byte = ltb-true (table L).tombstone_kind 256 (both_right (not (eqb (table L).tombstone_kind 0)) (ltb (table L).tombstone_kind 256) (sound-tombstone L))

@@ -11,7 +11,7 @@ use borrow.Author.Tests.{eq-eqb, ne_eqb, eqb-true, eqb-false, ltb-true, lt-ltb, 
 use Rattle.segment.specs.Digest.{layout_in}
 use Rattle.segment.specs.declared.Edition.TheVariants.{First, Second}
 use Rattle.segment.specs.Choice.{pick, pick_true, pick-false, both, both_left, both_right, both_true, both-false-left, both-false-right, is_none}
-use Rattle.segment.specs.Layout.{Layout, lookup, look_back, is_some, sound_objects, value_length, object_kind, is_tombstone_kind, version_limit, good_version, tombstone-not-end, tombstone-byte, edition1, edition2, other_layout, same_layout, layout_of_kind, layout_numbered, number_of_layout, table}
+use Rattle.segment.specs.Layout.{sound-objects, Layout, lookup, look_back, is_some, sound_objects, value_length, object_kind, is_tombstone_kind, version_limit, good_version, tombstone-not-end, tombstone-byte, edition1, edition2, other_layout, same_layout, layout_of_kind, layout_numbered, number_of_layout, table}
 
 -- ---- the table of objects
 
@@ -85,7 +85,7 @@ module _ (L : Layout) where
       go false q =
           inr
           (sound-member (table L).tombstone_kind (table L).objects k n
-          (lookup-member k n (table L).objects (sym (pick-false (eqb k (table L).tombstone_kind) (some 0) (lookup k (table L).objects) q) ∙ e)) (table L).sound-objects)
+          (lookup-member k n (table L).objects (sym (pick-false (eqb k (table L).tombstone_kind) (some 0) (lookup k (table L).objects) q) ∙ e)) (sound-objects L))
 
   pub entry-not-end : (k n : ℕ) → value_length L k ≡ some n → k ≡ 0 → ⊥
   entry-not-end k n e z = go (entry-cases k n e)
@@ -115,7 +115,7 @@ module _ (L : Layout) where
       (eq-eqb (table L).tombstone_kind (table L).tombstone_kind refl)
 
   sound-object : (n k : ℕ) → object_kind L n ≡ some k → Sound (table L).tombstone_kind (table L).objects k n
-  sound-object n k e = sound-member (table L).tombstone_kind (table L).objects k n (look_back-member n k (table L).objects e) (table L).sound-objects
+  sound-object n k e = sound-member (table L).tombstone_kind (table L).objects k n (look_back-member n k (table L).objects e) (sound-objects L)
 
   pub object-no-tombstone : (n k : ℕ) → object_kind L n ≡ some k → is_tombstone_kind L k ≡ false
   object-no-tombstone n k e = ne_eqb k (table L).tombstone_kind (sound-object n k e).not-tombstone
