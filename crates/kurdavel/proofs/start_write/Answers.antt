@@ -37,7 +37,7 @@ passed e = sym e.in-Passed.is ∙ e.check_fitting.ensures
 
 pub lay_entry-laying-requires : goal.lay_entry-laying-requires
 lay_entry-laying-requires c =
-    let a = c.args in 
+    let a = c.args in
     record {
       entry_ready = write-ready _ (record { tables = a.tables; expected = a.expected }) c.front_in-front.result a.area.now a.index.now a.work.now a.key a.value.now (passed (goal.at.lay_entry-laying-requires c).In-Passed) (edition-roomy _);
       number_left = write-number _ (record { tables = a.tables; expected = a.expected }) c.front_in-front.result a.area.now a.index.now a.work.now a.key a.value.now (passed (goal.at.lay_entry-laying-requires c).In-Passed);
