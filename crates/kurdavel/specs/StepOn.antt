@@ -22,7 +22,7 @@ use Rattle.model.specs.Promises.{StepPromise}
 use Rattle.laws.specs.OperationsKept.{edition-laws}
 use Rattle.telling.specs.Agree.{agrees_with}
 use Rattle.telling.specs.Next.{PendingIn}
-use Rattle.telling.specs.BareLaws.{found-bad, front_fits, found_front}
+use Rattle.telling.specs.BareLaws.{found-bad, front_fits as fits_front, found_front}
 use Rattle.telling.specs.Told.{found_by, told_by}
 use Rattle.telling.specs.ToldLaws.{told-promise}
 use Rattle.stepping.specs.Finish.{one_less, advanced}
@@ -126,7 +126,7 @@ module _ (words area work : List ℕ) where
       pub front-lent : front_fits words area
       front-lent =
           ap (λ (L : Layout). fits_lent L (bare (record_in words)) (length area) (word words 2)) own
-          ∙ front_fits says.edition says area cells work tested (not-false t passed) front
+          ∙ fits_front says.edition says area cells work tested (not-false t passed) front
 
       pub front-found : {a : TellAnswer} → a ≡ (told_by (record_in words).edition (bare (record_in words)) area work).answer → a ≡ found cells
       front-found h =

@@ -8,9 +8,9 @@ ghost use Rattle.model.specs.Recovery.{recovered};
 ghost use Rattle.rig_model.specs.Verdict.{eight_are, key_as, next_of, store_as, wrong_at};
 ghost use Rattle.rig_model.specs.RunLaws.{Ready};
 
+use drive_log::survey::survey;
 use histories::book;
 use histories::book::{Book, Held};
-use drive_log::survey::survey;
 use record::{ReadAnswer, Record, RecoverAnswer, Tables};
 use report::gather::gather;
 use segment::Key;

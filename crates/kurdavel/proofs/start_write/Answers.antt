@@ -1,4 +1,5 @@
 -- `kurdavel::start_write` meets its contract.
+use borrow.Author.Rules.{rules}
 use mathlib.Core.Path.{ap}
 use mathlib.Core.Bool.{not}
 use Prim.Native.Nat.{◌<◌}
@@ -15,7 +16,7 @@ use Rattle.kurdavel.proofs.start_write.Goals.{In-Passed}
 
 pub returns-then-not-fits : goal.returns-then-not-fits
 returns-then-not-fits c =
-    let half : word c.args.words.now 7 < 4294967296 = omega (arith, c.type_inv.words 7) in
+    let half : word c.args.words.now 7 < 4294967296 = search rules in
     let a = c.args in
     write-bad (record { tables = a.tables; expected = a.expected }) a.words.now a.area.now a.index.now a.work.now a.key a.value.now (half) _ c.fits.ensures (ap not c.if-not-fits.true)
 
@@ -24,7 +25,7 @@ front_in-front-requires c = fits-words _ _ _ (sym c.fits.ensures ∙ c.if-not-fi
 
 pub check_fitting-requires : goal.check_fitting-requires
 check_fitting-requires c =
-    let half : word c.args.words.now 7 < 4294967296 = omega (arith, c.type_inv.words 7) in
+    let half : word c.args.words.now 7 < 4294967296 = search rules in
     let a = c.args in
     front-fit (record { tables = a.tables; expected = a.expected }) a.words.now a.area.now a.index.now a.work.now a.key a.value.now (half) 0 c.fits.ensures (ap not c.if-not-fits.false) c.front_in-front.ensures
 
@@ -36,7 +37,7 @@ passed e = sym e.in-Passed.is ∙ e.check_fitting.ensures
 
 pub lay_entry-laying-requires : goal.lay_entry-laying-requires
 lay_entry-laying-requires c =
-    let a = c.args in 
+    let a = c.args in
     record {
       entry_ready = write-ready _ (record { tables = a.tables; expected = a.expected }) c.front_in-front.result a.area.now a.index.now a.work.now a.key a.value.now (passed (goal.at.lay_entry-laying-requires c).In-Passed) (edition-roomy _);
       number_left = write-number _ (record { tables = a.tables; expected = a.expected }) c.front_in-front.result a.area.now a.index.now a.work.now a.key a.value.now (passed (goal.at.lay_entry-laying-requires c).In-Passed);
@@ -49,12 +50,12 @@ encode_pending-requires c =
 
 pub returns-in-Refused : goal.returns-in-Refused
 returns-in-Refused c =
-    let half : word c.args.words.now 7 < 4294967296 = omega (arith, c.type_inv.words 7) in
+    let half : word c.args.words.now 7 < 4294967296 = search rules in
     let a = c.args in
     write-turned (record { tables = a.tables; expected = a.expected }) a.words.now a.area.now a.index.now a.work.now a.key a.value.now (half) _ c.fits.ensures (ap not c.if-not-fits.false) c.front_in-front.ensures _ (sym c.in-Refused.is ∙ c.check_fitting.ensures) c.number.ensures
 
 pub returns-in-Passed : goal.returns-in-Passed
 returns-in-Passed c =
-    let half : word c.args.words.now 7 < 4294967296 = omega (arith, c.type_inv.words 7) in
+    let half : word c.args.words.now 7 < 4294967296 = search rules in
     let a = c.args in
     write-begun (record { tables = a.tables; expected = a.expected }) a.words.now a.area.now a.index.now a.work.now a.key a.value.now (half) _ c.fits.ensures (ap not c.if-not-fits.false) c.front_in-front.ensures (passed (goal.at.returns-in-Passed c).In-Passed) _ c.object_kind.ensures c.lay_entry-laying.ensures c.encode_pending.ensures

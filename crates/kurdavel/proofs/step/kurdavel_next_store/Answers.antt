@@ -24,7 +24,7 @@ returns-then-not-fits c =
 
 pub found_in-requires : goal.found_in-requires
 found_in-requires c =
-    let a = c.args in 
+    let a = c.args in
     record {
       record_words_in_bounds = front_long a.words.now a.area.now a.work.now _ c.fits.ensures (ap not c.if-not-fits.false);
       front_fits = front-lent a.words.now a.area.now a.work.now _ c.fits.ensures (ap not c.if-not-fits.false);

@@ -1,4 +1,5 @@
 -- `kurdavel::step::kurdavel_step` meets its contract.
+use borrow.Author.Rules.{rules}
 use mathlib.Core.Bool.{not}
 use Prim.Native.Nat.{◌≤◌, ◌<◌}
 use mathlib.Core.Path.{◌≡◌, refl, sym, ◌∙◌, ap}
@@ -14,13 +15,13 @@ use Rattle.kurdavel.proofs.step.kurdavel_step.Goals.{After-byte_from, After-foun
 
 pub returns-then-not-fits : goal.returns-then-not-fits
 returns-then-not-fits c =
-    let half : word c.args.words.now 7 < 4294967296 = omega (arith, c.type_inv.words 7) in
+    let half : word c.args.words.now 7 < 4294967296 = search rules in
     let a = c.args in
     on-refused a.words.now a.area.now a.work.now (half) a.index.now _ _ _ (bad-found a.words.now a.area.now a.work.now (length a.index.now) c.fits.ensures (ap not c.if-not-fits.true)) refl
 
 pub found_in-requires : goal.found_in-requires
 found_in-requires c =
-    let a = c.args in 
+    let a = c.args in
     record {
       record_words_in_bounds = front_long a.words.now a.area.now a.work.now (length a.index.now) c.fits.ensures (ap not c.if-not-fits.false);
       front_fits = front-lent a.words.now a.area.now a.work.now (length a.index.now) c.fits.ensures (ap not c.if-not-fits.false);
@@ -80,12 +81,12 @@ bounds-words-16-in-At c = omega (arith, long (goal.at.bounds-words-16-in-At c).A
 pub returns-in-Refused : goal.returns-in-Refused
 unfolding answered
 returns-in-Refused c =
-    let half : word c.args.words.now 7 < 4294967296 = omega (arith, c.type_inv.words 7) in
+    let half : word c.args.words.now 7 < 4294967296 = search rules in
     let a = c.args in
     on-refused a.words.now a.area.now a.work.now (half) a.index.now _ _ _ (sym (found-is (goal.at.returns-in-Refused c).After-found_in) ∙ ap (answered a.work.now) c.in-Refused.is) c.number.ensures
 
 pub returns-else-rest-eq0 : goal.returns-else-rest-eq0
 returns-else-rest-eq0 c =
-    let half : word c.args.words.now 7 < 4294967296 = omega (arith, c.type_inv.words 7) in
+    let half : word c.args.words.now 7 < 4294967296 = search rules in
     let a = c.args in
     on-stored a.words.now a.area.now a.work.now (half) a.index.now _ _ _ _ (at-is (goal.at.returns-else-rest-eq0 c).After-byte_from) (omega (arith, on-left a.words.now a.area.now a.work.now a.index.now 0 0 _ _ (at-is (goal.at.returns-else-rest-eq0 c).After-byte_from), c.if-rest-eq0.false)) refl

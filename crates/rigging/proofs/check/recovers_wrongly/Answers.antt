@@ -1,4 +1,5 @@
 -- `rigging::check::recovers_wrongly` meets its contract.
+use mathlib.Core.List.{[]}
 use mathlib.Core.Path.{refl}
 use mathlib.Core.List.{◌∷◌}
 use native.Mathlib.Omega.{arith}
