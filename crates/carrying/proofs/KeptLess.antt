@@ -10,12 +10,13 @@ use mathlib.Core.Option.{Option, none, some}
 use lib.Dec.{eqb}
 use lib.ListN.{length}
 use borrow.Author.Tests.{eq-eqb, not-true}
-use Rattle.segment.specs.Choice.{pick, pick_true, pick-false, both, both_left, both_right, either, either-true-left, either-true-right}
+use Rattle.segment.specs.Choice.{pick, both, either}
+use Rattle.segment.proofs.Choice.{pick_true, pick-false, both_left, both_right, either-true-left, either-true-right}
 use Rattle.segment.specs.Layout.{Layout}
 use Rattle.segment.specs.Entry.{Entry, is_tombstone, key_of, encoded}
 use Rattle.segment.specs.declared.Key.{Key}
 use Rattle.slot_map.specs.Bit.{named}
-use Rattle.slot_map.specs.BitLaws.{bit-pow-other, named-true, clear-named}
+use Rattle.slot_map.proofs.BitLaws.{bit-pow-other, named-true, clear-named}
 use Rattle.model.specs.Log.{Placed, same_key, latest}
 use Rattle.model.specs.Operations.{is_highest, object_outside, is_kept, kept, all_encoded}
 use Rattle.model.specs.Refused.{kept_length}

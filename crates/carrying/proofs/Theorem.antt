@@ -14,12 +14,13 @@ use lib.Pow.{pow_pos, pow_mono}
 use lib.Seq.{take_all}
 use borrow.Author.Tests.{le-ltb, ltb-false, ne_eqb}
 use Rattle.word.specs.Number.{Bytes}
-use Rattle.segment.specs.Choice.{pick, both_true, both-false-right, either-false}
+use Rattle.segment.specs.Choice.{pick}
+use Rattle.segment.proofs.Choice.{both_true, both-false-right, either-false}
 use Rattle.segment.specs.Layout.{Layout, edition1, edition2, digest_size, number_limit}
 use Rattle.segment.specs.declared.Edition.TheVariants.{First, Second}
 use Rattle.slot_map.specs.Bit.{bit, named, within}
-use Rattle.slot_map.specs.BitLaws.{bit-pow-same, named-true, set-named, within-pow}
-use Rattle.slot_map.specs.NextLaws.{next-clear}
+use Rattle.slot_map.proofs.BitLaws.{bit-pow-same, named-true, set-named, within-pow}
+use Rattle.slot_map.proofs.NextLaws.{next-clear}
 use Rattle.record.specs.Range.{fits_lent}
 use Rattle.record.specs.RangeLaws.{Lent, lent-switched, fits-switched}
 use Rattle.record.specs.Switch.{new_layout, unswitched}

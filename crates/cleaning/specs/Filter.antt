@@ -17,10 +17,6 @@ use Rattle.cleaning.specs.declared.Split.{Split}
 unfoldable pub spread : Key → ℕ
 spread k = wrapped (bit_xor k.key (k.table * 65536)) 2654435761 / 1048576
 
-pub spread-low : (k : Key) → spread k < 4096
-unfolding spread
-spread-low k = omega arith
-
 abbrev pub filter_has : List ℕ → Key → Bool
 filter_has filter k = is_marked filter (spread k)
 

@@ -8,12 +8,9 @@ pub mod Filter
 pub mod FilterLaws
 pub mod Kept
 pub mod KeptLaws
-pub mod KeptAlike
 pub mod ByKind
 pub mod Chosen
 pub mod ChosenLaws
 pub mod Runs
-pub mod Outside
 pub mod KeptModel
 pub mod Begun
-pub mod CleanLaws

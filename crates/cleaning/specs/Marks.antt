@@ -11,8 +11,7 @@ use Rattle.segment.specs.Choice.{pick}
 use Rattle.segment.specs.Layout.{Layout}
 use Rattle.segment.specs.Entries.{header_of}
 use Rattle.segment.specs.declared.Header.{Header}
-use Rattle.slot_map.specs.Bit.{bit, named, with_bit}
-use Rattle.slot_map.specs.BitLaws.{bit-of-zero, bit-with-same, bit-with-other, set-named}
+use Rattle.slot_map.specs.Bit.{named, with_bit}
 use Rattle.model.specs.Log.{Item}
 use Rattle.index.specs.Search.{search_for}
 use Rattle.index.specs.declared.Found.{Found}
@@ -34,38 +33,6 @@ is_marked marks c = named (word_at marks c) (c % 32)
 
 unfoldable pub marked_with : List ℕ → ℕ → List ℕ
 marked_with marks c = set marks (word_of c) (with_bit (word_at marks c) (c % 32))
-
-pub length_marked : (marks : List ℕ) (c : ℕ) → length (marked_with marks c) ≡ length marks
-unfolding marked_with
-length_marked marks c = length-set marks (word_of c) (with_bit (word_at marks c) (c % 32))
-
-module _ (marks : List ℕ) (long : length marks ≡ 128) (c : ℕ) where
-  own-word : get_or (marked_with marks c) (word_of c) 0 ≡ with_bit (word_at marks c) (c % 32)
-  unfolding marked_with
-  own-word = get_or-set_same marks (word_of c) (with_bit (word_at marks c) (c % 32)) 0 (omega arith)
-
-  pub mark-own : is_marked (marked_with marks c) c ≡ true
-  unfolding is_marked
-  mark-own =
-      set-named (word_at (marked_with marks c) c) (c % 32)
-      (ap (λ (w : ℕ). bit w (c % 32)) own-word ∙ bit-with-same (word_at marks c) (c % 32))
-
-  -- the mark of another cell stays as it was
-  pub mark-other : (d : ℕ) → c < 4096 → d < 4096 → (c ≡ d → ⊥) → is_marked (marked_with marks c) d ≡ is_marked marks d
-  unfolding is_marked marked_with
-  mark-other d low high apart = go (eqb (word_of c) (word_of d)) refl
-    where
-      go : (t : Bool) → eqb (word_of c) (word_of d) ≡ t → named (word_at (marked_with marks c) d) (d % 32) ≡ named (word_at marks d) (d % 32)
-      go true p =
-          let same : word_of c ≡ word_of d = eqb-true (word_of c) (word_of d) p in
-          ap (λ (k : ℕ). named (get_or (marked_with marks c) k 0) (d % 32)) (sym same)
-          ∙ ap (λ (w : ℕ). named w (d % 32)) own-word
-          ∙ ap (λ (b : ℕ). eqb b 1) (bit-with-other (word_at marks c) (c % 32) (d % 32) (λ e. apart (omega arith)))
-          ∙ ap (λ (k : ℕ). named (get_or marks k 0) (d % 32)) same
-      go false p =
-          ap (λ (w : ℕ). named w (d % 32))
-          (get_or-set_other marks (word_of c) (word_of d) (with_bit (word_at marks c) (c % 32)) 0
-          (λ e. eqb-false (word_of c) (word_of d) p (sym e)))
 
 -- ---- the walk outside the victims, as a total function of any area and any cells
 
@@ -104,8 +71,3 @@ mark_needed area cells split marks = pick (any_tombstone area split) (mark_outsi
 -- from no marks
 abbrev pub marks_of : List ℕ → List ℕ → Split → List ℕ
 marks_of area cells split = mark_needed area cells split (replicate 128 0)
-
-pub clear-marks : (c : ℕ) → is_marked (replicate 128 0) c ≡ false
-unfolding is_marked
-clear-marks c =
-    ap (λ (w : ℕ). named w (c % 32)) (get_or-replicate 128 (word_of c) 0 0 (omega arith)) ∙ ap (λ (b : ℕ). eqb b 1) (bit-of-zero (c % 32))

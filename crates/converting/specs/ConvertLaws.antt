@@ -4,7 +4,8 @@ use Rattle.std.proofs.Math.Path.{◌≡◌, refl, ap}
 use Rattle.std.proofs.Common.{sym, ◌∙◌, subst, arith}
 use mathlib.Core.List.{List, [], ◌∷◌, ◌++◌}
 use Rattle.std.proofs.Math.Option.{Option, none, some}
-use Rattle.segment.specs.Choice.{either, either-false, either-true-left, either-true-right}
+use Rattle.segment.specs.Choice.{either}
+use Rattle.segment.proofs.Choice.{either-false, either-true-left, either-true-right}
 use Rattle.segment.specs.Layout.{Layout, other_layout}
 use Rattle.segment.specs.declared.Digest.{Digest}
 use Rattle.segment.specs.declared.Version.{Version}
@@ -24,7 +25,8 @@ use Rattle.laws.specs.LogLaws.{names-digests}
 use Rattle.drive_log.specs.Shape.{Shape}
 use Rattle.recovery.specs.FormatLaws.{geometry-fits}
 use Rattle.recovery.specs.Recovering.{image_checks, image_for, image_of}
-use Rattle.recovery.specs.RecoverPromises.{SoundImage, sound-image, image-editions, image-scans}
+use Rattle.recovery.specs.RecoverPromises.{SoundImage}
+use Rattle.recovery.proofs.RecoverPromises.{sound-image, image-editions, image-scans}
 use Rattle.recovery.specs.declared.Image.{Image}
 use Rattle.converting.specs.Parts.{LogOf}
 use Rattle.converting.specs.Converting.{LogConverted}

@@ -4,14 +4,18 @@ use Rattle.std.proofs.Math.Path.{refl, sym, ap}
 use Rattle.std.proofs.Common.{◌∙◌, subst, add-one, arith}
 use mathlib.Core.List.{List, [], ◌∷◌}
 use Rattle.std.proofs.Math.Option.{none, some}
-use Rattle.segment.specs.Choice.{pick_true, pick-false, both, both_true, both-false-left, both-false-right, either, either-false, either-true-left, either-true-right}
+use Rattle.segment.specs.Choice.{both, either}
+use Rattle.segment.proofs.Choice.{pick_true, pick-false, both_true, both-false-left, both-false-right, either-false, either-true-left, either-true-right}
 use Rattle.segment.specs.Layout.{Layout, edition2, digest_size, entry_size, table}
 use Rattle.segment.specs.declared.Edition.TheVariants.{First, Second}
 use Rattle.segment.specs.Entry.{Entry, entry, end, entry_at, size_of}
-use Rattle.segment.specs.EntryLaws.{found-fits, at-end, Reading, is-entry, is-end, is-damage, reading}
-use Rattle.segment.specs.LayoutLaws.{entry-not-end}
-use Rattle.segment.specs.Kinds.{size_or_zero, kind_size, has-size}
-use Rattle.segment.specs.Entries.{header_of, next_of, next-entry, next-end, next-damage}
+use Rattle.segment.specs.EntryLaws.{Reading, is-entry, is-end, is-damage}
+use Rattle.segment.proofs.EntryLaws.{found-fits, at-end, reading}
+use Rattle.segment.proofs.LayoutLaws.{entry-not-end}
+use Rattle.segment.specs.Kinds.{size_or_zero, kind_size}
+use Rattle.segment.proofs.KindsLaws.{has-size}
+use Rattle.segment.specs.Entries.{header_of, next_of}
+use Rattle.segment.proofs.EntriesLaws.{next-entry, next-end, next-damage}
 use Rattle.segment.specs.Digest.{layout_in, is_digest, digest_of}
 use Rattle.segment.specs.declared.Digest.{Digest}
 use Rattle.segment.specs.declared.Header.{Header}

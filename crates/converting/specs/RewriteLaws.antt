@@ -5,14 +5,16 @@ use Rattle.std.proofs.Common.{◌∙◌, append-nil, suc-mul, add-one, drop_of_l
 use native.Mathlib.Omega.{arith}
 use Rattle.std.proofs.lemmas.List.Edits.{sets, sets-eq}
 use Rattle.std.proofs.Math.Seq.{length-sets}
-use Rattle.segment.specs.Choice.{pick_true, pick-false}
-use Rattle.segment.specs.Copied.{Copied, copied-as, copied-then, copied-long, Copying, copying-start, copying-next, copying-room, copying-end}
+use Rattle.segment.proofs.Choice.{pick_true, pick-false}
+use Rattle.segment.specs.Copied.{Copied, copied-then, Copying}
+use Rattle.segment.proofs.Copied.{copied-as, copied-long, copying-start, copying-next, copying-room, copying-end}
 use Rattle.segment.specs.Layout.{Layout, digest_size, entry_size}
 use Rattle.segment.specs.Entry.{Entry, encoded}
-use Rattle.segment.specs.EntryLaws.{length-encoded}
+use Rattle.segment.proofs.EntryLaws.{length-encoded}
 use Rattle.segment.specs.Digest.{digest_of, encoded_digest}
-use Rattle.segment.specs.DigestLaws.{length-encoded_digest}
-use Rattle.segment.specs.Rewritten.{entry_bytes, entry-own}
+use Rattle.segment.proofs.DigestLaws.{length-encoded_digest}
+use Rattle.segment.specs.Rewritten.{entry_bytes}
+use Rattle.segment.proofs.Rewritten.{entry-own}
 use Rattle.segment.specs.declared.Digest.{Digest}
 use Rattle.segment.specs.declared.Header.{Header}
 use Rattle.model.specs.Log.{View, scan, is_damaged}

@@ -5,13 +5,14 @@ use Rattle.std.proofs.Common.{◌∙◌, subst, lt-ltb, le-ltb, ltb-false}
 use mathlib.Core.List.{List, [], ◌∷◌}
 use native.Mathlib.Omega.{arith}
 use Rattle.std.proofs.Math.ListN.{length, length-append}
-use Rattle.segment.specs.Choice.{both, both-false-left, both-false-right, either, either-false}
+use Rattle.segment.specs.Choice.{both, either}
+use Rattle.segment.proofs.Choice.{both-false-left, both-false-right, either-false}
 use Rattle.segment.specs.Layout.{Layout, digest_size, entry_size}
-use Rattle.segment.specs.LayoutLaws.{width_low, width-high}
+use Rattle.segment.proofs.LayoutLaws.{width_low, width-high}
 use Rattle.segment.specs.Entry.{Entry, encoded, size_of}
-use Rattle.segment.specs.EntryLaws.{length-encoded}
+use Rattle.segment.proofs.EntryLaws.{length-encoded}
 use Rattle.segment.specs.Digest.{digest_of, encoded_digest}
-use Rattle.segment.specs.DigestLaws.{length-encoded_digest}
+use Rattle.segment.proofs.DigestLaws.{length-encoded_digest}
 use Rattle.segment.specs.declared.Header.{Header}
 use Rattle.model.specs.Log.{View, scan, is_damaged, segment_of, views_of}
 use Rattle.model.specs.Operations.{all_encoded}

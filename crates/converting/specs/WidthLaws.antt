@@ -7,7 +7,8 @@ use Rattle.std.proofs.Math.Bool.{true, not}
 use mathlib.Core.List.{List, [], ◌∷◌, ◌++◌}
 use Rattle.std.proofs.Math.Option.{some}
 use Rattle.std.proofs.Math.Decide.{dec_le, ℕ_discrete}
-use Rattle.segment.specs.Choice.{both, both_true, either, either-false, either-true-left, either-true-right}
+use Rattle.segment.specs.Choice.{both, either}
+use Rattle.segment.proofs.Choice.{both_true, either-false, either-true-left, either-true-right}
 use Rattle.segment.specs.Layout.{Layout, version_limit, table}
 use Rattle.segment.specs.Digest.{digest_of}
 use Rattle.segment.specs.declared.Digest.{Digest}

@@ -10,11 +10,13 @@ use Rattle.std.proofs.Math.Nat.{sub-zero}
 use native.Mathlib.Omega.{arith}
 use Rattle.std.proofs.lemmas.List.{set-get_or}
 use Rattle.segment.specs.Choice.{pick}
-use Rattle.segment.specs.Area.{segment_of, place-slot, object-place}
+use Rattle.segment.specs.Area.{segment_of}
+use Rattle.segment.proofs.AreaLaws.{place-slot, object-place}
 use Rattle.segment.specs.Layout.{Layout, digest_size}
 use Rattle.segment.specs.Digest.{layout_in}
 use Rattle.segment.specs.Entry.{Entry, entry, entry_at, is_tombstone, size_of}
-use Rattle.segment.specs.Entries.{next_of, next-entry, next-end, next-damage}
+use Rattle.segment.specs.Entries.{next_of}
+use Rattle.segment.proofs.EntriesLaws.{next-entry, next-end, next-damage}
 use Rattle.segment.specs.declared.Header.{Header}
 use Rattle.segment.specs.declared.Key.{Key}
 use Rattle.segment.specs.declared.Next.{Next}
@@ -25,7 +27,7 @@ use Rattle.model.specs.Counts.{fewer_bytes, object_bytes, without_live, without_
 use Rattle.laws.specs.Scans.{item_entries, items_from}
 use Rattle.laws.specs.LogLaws.{scanned-undamaged, items-scanned}
 use Rattle.laws.specs.Recounted.{length_without, without_at}
-use Rattle.index.specs.Entries.{entries-entry, entries-end, entries-damage, entries-scan}
+use Rattle.index.proofs.Entries.{entries-entry, entries-end, entries-damage, entries-scan}
 use Rattle.counting.specs.Counting.{lost_at, header_bytes, bytes_from, segment_bytes, own_bytes}
 
 -- ---- the walk over a segment

@@ -5,7 +5,7 @@ use Rattle.std.proofs.Common.{◌∙◌, add-zero, add_assoc, arith}
 use Rattle.segment.specs.Choice.{pick}
 use Rattle.segment.specs.Layout.{Layout}
 use Rattle.segment.specs.Entry.{Entry, end, damage, entry_at}
-use Rattle.segment.specs.EntryLaws.{found-end}
+use Rattle.segment.proofs.EntryLaws.{found-end}
 use Rattle.model.specs.Log.{View, Item, Scan, damaged, scanned, item_first, scan, items_of, placed_in, log_of}
 use Rattle.laws.specs.Scans.{item_at}
 use Rattle.laws.specs.Members.{total}

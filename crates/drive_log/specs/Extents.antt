@@ -5,11 +5,13 @@ use Rattle.std.proofs.Math.Path.{refl, sym, ap}
 use Rattle.std.proofs.Common.{◌∙◌, add-one, arith}
 use mathlib.Core.List.{List, [], ◌++◌, append-nil}
 use Rattle.std.proofs.Math.ListN.{length}
-use Rattle.segment.specs.Choice.{pick_true, pick-false, both, both_true, either-false, either-true-left, either-true-right}
+use Rattle.segment.specs.Choice.{both}
+use Rattle.segment.proofs.Choice.{pick_true, pick-false, both_true, either-false, either-true-left, either-true-right}
 use Rattle.segment.specs.Layout.{Layout, digest_size}
 use Rattle.segment.specs.Entry.{Entry, Found, entry, end, damage, entry_at, size_of}
-use Rattle.segment.specs.EntryLaws.{past_end}
-use Rattle.segment.specs.Entries.{next_of, next-entry, next_fits}
+use Rattle.segment.proofs.EntryLaws.{past_end}
+use Rattle.segment.specs.Entries.{next_of}
+use Rattle.segment.proofs.EntriesLaws.{next-entry, next_fits}
 use Rattle.segment.specs.declared.Header.{Header}
 use Rattle.segment.specs.declared.Next.{Next}
 use Rattle.segment.specs.declared.Next.TheVariants as N

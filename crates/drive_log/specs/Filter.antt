@@ -10,7 +10,8 @@ use Rattle.std.proofs.Math.Decide.{dec_le}
 use Rattle.std.proofs.Math.Dec.{eqb}
 use Rattle.std.proofs.Math.ListN.{length-set}
 use borrow.Author.Tests.{eq-eqb, eqb-true, eqb-false}
-use Rattle.segment.specs.Choice.{pick, pick_true, pick-false}
+use Rattle.segment.specs.Choice.{pick}
+use Rattle.segment.proofs.Choice.{pick_true, pick-false}
 use Rattle.segment.specs.Layout.{Layout, digest_size}
 use Rattle.segment.specs.Entry.{end, damage, entry_at}
 use Rattle.slot_map.specs.Bit.{with_bit}

@@ -7,7 +7,8 @@ use Rattle.std.proofs.Math.Bool.{false, not}
 use mathlib.Core.List.{List}
 use Rattle.std.proofs.Math.Option.{Option, none, some}
 use Rattle.std.proofs.lemmas.Bool.{eqb-false}
-use Rattle.segment.specs.Choice.{pick_true, pick-false, both, both_true, both-false-left, both-false-right, either, either-false, either-true-left, either-true-right, is_none}
+use Rattle.segment.specs.Choice.{both, either, is_none}
+use Rattle.segment.proofs.Choice.{pick_true, pick-false, both_true, both-false-left, both-false-right, either-false, either-true-left, either-true-right}
 use Rattle.segment.specs.Layout.{Layout, edition1, edition2, same_layout}
 use Rattle.segment.specs.declared.Edition.TheVariants.{First, Second}
 use Rattle.segment.specs.Digest.{layout_in, digest_of, is_digest}

@@ -3,7 +3,7 @@ use Rattle.std.specs.Prelude.{◌≡◌, refl, ℕ}
 use Rattle.std.proofs.Common.{sym, ap}
 use Rattle.std.proofs.Math.Option.{Option, none, some}
 use Rattle.segment.specs.Layout.{Layout, value_length}
-use Rattle.segment.specs.LayoutLaws.{entry-not-end}
+use Rattle.segment.proofs.LayoutLaws.{entry-not-end}
 use Rattle.segment.specs.Kinds.{size_or_zero, kind_size}
 
 -- no entry has the kind of the end

@@ -3,7 +3,7 @@ use Rattle.std.specs.Prelude.{ℕ, ◌+◌, ◌*◌, ◌/◌, ◌%◌, ◌≤◌
 use Rattle.std.proofs.Common.{sym, ◌∙◌, ap, arith, length-set, get_or-set_same, get_or-set_other, eqb-true}
 use Rattle.std.proofs.lemmas.Bool.{eqb-false}
 use Rattle.slot_map.specs.Bit.{bit, named, with_bit}
-use Rattle.slot_map.specs.BitLaws.{bit-with-same, bit-with-other, named-true, set-named}
+use Rattle.slot_map.proofs.BitLaws.{bit-with-same, bit-with-other, named-true, set-named}
 use Rattle.laws.specs.Members.{clash}
 use Rattle.drive_log.specs.Tables.{holds, holds-found}
 

@@ -7,7 +7,8 @@ use mathlib.Core.List.{List, [], ◌∷◌, ◌++◌, append-nil, append_assoc}
 use Rattle.std.proofs.Math.Decide.{dec_le}
 use Rattle.std.proofs.Math.Dec.{eqb}
 use borrow.Author.Tests.{eqb-true}
-use Rattle.segment.specs.Choice.{pick, both-false-left, both-false-right}
+use Rattle.segment.specs.Choice.{pick}
+use Rattle.segment.proofs.Choice.{both-false-left, both-false-right}
 use Rattle.segment.specs.Layout.{Layout, digest_size}
 use Rattle.segment.specs.Entry.{end, damage, entry_at}
 use Rattle.model.specs.Log.{View, Item, Placed, Scan, damaged, scanned, item_first, scan, items_of, is_damaged, placed_in, log_of, highest, version_shared}

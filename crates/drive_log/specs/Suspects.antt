@@ -9,11 +9,12 @@ use native.Mathlib.Omega.{arith}
 use Rattle.std.proofs.Math.Decide.{dec_le}
 use Rattle.std.proofs.Math.Dec.{eqb}
 use borrow.Author.Tests.{eqb-true, eqb-false, ltb-true, ltb-false}
-use Rattle.segment.specs.Choice.{pick, pick_true, pick-false}
-use Rattle.segment.specs.LayoutLaws.{limit-high}
+use Rattle.segment.specs.Choice.{pick}
+use Rattle.segment.proofs.Choice.{pick_true, pick-false}
+use Rattle.segment.proofs.LayoutLaws.{limit-high}
 use Rattle.segment.specs.Digest.{layout_in}
 use Rattle.segment.specs.Entry.{Entry}
-use Rattle.segment.specs.EntryLaws.{found_below}
+use Rattle.segment.proofs.EntryLaws.{found_below}
 use Rattle.model.specs.Log.{Placed, Scan, damaged, scanned, items_of, segment_of, views_of, log_of, version_shared}
 use Rattle.laws.specs.Members.{clash, In, first, entries_of, entries-append, total, total-append}
 use Rattle.laws.specs.Scans.{scan-scans, scans-found}

@@ -6,7 +6,8 @@ use mathlib.Core.List.{List, [], ◌∷◌, ◌++◌}
 use mathlib.Core.Option.{Option, none, some}
 use lib.Dec.{eqb}
 use lib.ListN.{length, take, drop}
-use Rattle.segment.specs.Choice.{pick, pick-false}
+use Rattle.segment.specs.Choice.{pick}
+use Rattle.segment.proofs.Choice.{pick-false}
 use Rattle.segment.specs.declared.Key.{Key}
 use Rattle.record.specs.Answers.{Said, refusal, taken, taken_with, recover_said, read_said, start_said, step_said, tell_said, fewest_said, convert_said}
 use Rattle.record.specs.Range.{fits_lent, in_range}
@@ -26,7 +27,7 @@ use Rattle.record.specs.declared.FewestAnswer.{FewestAnswer}
 use Rattle.record.specs.declared.SwitchAnswer.{SwitchAnswer}
 use Rattle.record.specs.declared.Switching.{Switching}
 use Rattle.record.specs.declared.TellAnswer.{TellAnswer}
-use Rattle.model.specs.Arguments.{typed-key, typed-write, typed-delete, typed-clean}
+use Rattle.model.proofs.Arguments.{typed-key, typed-write, typed-delete, typed-clean}
 use Rattle.model.specs.Operations.{Operation, write, delete, clean, Typed}
 use Rattle.record.specs.declared.Tables.{Tables}
 use Rattle.model.specs.Fewest.{no_lengths}
@@ -37,7 +38,7 @@ use Rattle.model.specs.Promises.{Begun, begun, read_lengths, lent_lengths, tell_
 use Rattle.record.specs.Pairs.{PairSaid, join_said}
 use Rattle.laws.specs.CauseLaws.{cause-first, refusal-number}
 use Rattle.words.specs.Words.{record_words, is_record, decoded}
-use Rattle.words.specs.WordLaws.{record-long, decoded-record, decoded-none, decode-encode}
+use Rattle.words.proofs.WordLaws.{record-long, decoded-record, decoded-none, decode-encode}
 use Rattle.words.specs.declared.Decoded.{Decoded}
 use Rattle.history.specs.Book.{reads, reads_value, tells, fewest, starts, steps, switches, asks, recovers, Answer, saying, giving, telling, naming, Event, called, scans, scans_value, converts, joins, pairing}
 use Rattle.history.specs.Runs as Store

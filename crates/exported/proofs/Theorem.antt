@@ -18,11 +18,11 @@ use Rattle.record.specs.declared.Reading.{Reading}
 use Rattle.record.specs.declared.ReadAnswer.{ReadAnswer}
 use Rattle.record.specs.declared.Record.{Record}
 use Rattle.record.specs.declared.RecoverAnswer.{RecoverAnswer}
-use Rattle.model.specs.Arguments.{typed-key}
+use Rattle.model.proofs.Arguments.{typed-key}
 use Rattle.model.specs.Promises.{FormatPromise, ReadPromise, ValuePromise}
 use Rattle.laws.specs.CauseLaws.{refusal-number}
 use Rattle.words.specs.Words.{record_words, decoded}
-use Rattle.words.specs.WordLaws.{decode-encode}
+use Rattle.words.proofs.WordLaws.{decode-encode}
 use Rattle.words.specs.declared.Decoded.{Decoded}
 use Rattle.history.specs.Book.{Kept, Book, book_of}
 use Rattle.history.specs.Editions.{Editions, Among, formatted_in, editions_behind}

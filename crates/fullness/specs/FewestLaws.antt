@@ -7,7 +7,8 @@ use Rattle.std.proofs.Math.Option.{Option, none, some}
 use Rattle.std.proofs.Math.Decide.{ℕ_discrete, dec_lt}
 use Rattle.std.proofs.Math.Dec.{leb}
 use borrow.Author.Tests.{leb-true, leb-false, le-leb, lt-leb, eq-eqb}
-use Rattle.segment.specs.Choice.{pick, pick_true, pick-false, both, both_left, both_right, both_true, both-false-left, both-false-right, either, either-true-left, either-true-right}
+use Rattle.segment.specs.Choice.{pick, both, either}
+use Rattle.segment.proofs.Choice.{pick_true, pick-false, both_left, both_right, both_true, both-false-left, both-false-right, either-true-left, either-true-right}
 use Rattle.segment.specs.Layout.{Layout}
 use Rattle.slot_map.specs.Bit.{named}
 use Rattle.record.specs.Answers.{taken, said_by, told_by, fewest_said, fewest_told}

@@ -11,7 +11,8 @@ use lib.Dec.{eqb}
 use lib.ListN.{length}
 use borrow.Author.Tests.{not-true, eq-eqb}
 use Rattle.word.specs.Number.{Bytes}
-use Rattle.segment.specs.Choice.{pick, both, both_left, both_right, both_true, pick_true, pick-false}
+use Rattle.segment.specs.Choice.{pick, both}
+use Rattle.segment.proofs.Choice.{both_left, both_right, both_true, pick_true, pick-false}
 use Rattle.segment.specs.Layout.{Layout, number_of_layout}
 use Rattle.segment.specs.declared.Key.{Key}
 use Rattle.record.specs.Answers.{read_said, refusal}

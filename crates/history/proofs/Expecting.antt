@@ -10,7 +10,8 @@ use mathlib.Core.Option.{Option, none, some}
 use lib.Dec.{eqb}
 use borrow.Author.Tests.{not-true}
 use Rattle.word.specs.Number.{Bytes}
-use Rattle.segment.specs.Choice.{pick, both_left, both_right, pick_true}
+use Rattle.segment.specs.Choice.{pick}
+use Rattle.segment.proofs.Choice.{both_left, both_right, pick_true}
 use Rattle.segment.specs.Layout.{Layout, number_of_layout}
 use Rattle.segment.specs.declared.Key.{Key}
 use Rattle.segment.specs.declared.Version.{Version}

@@ -9,7 +9,8 @@ use mathlib.Core.Option.{Option, none, some}
 use lib.Dec.{eqb}
 use lib.ListN.{length}
 use borrow.Author.Tests.{eqb-true}
-use Rattle.segment.specs.Choice.{pick, both_left, both_right}
+use Rattle.segment.specs.Choice.{pick}
+use Rattle.segment.proofs.Choice.{both_left, both_right}
 use Rattle.segment.specs.Layout.{Layout, entry_size}
 use Rattle.segment.specs.Entry.{Entry}
 use Rattle.segment.specs.declared.Key.{Key}

@@ -9,7 +9,8 @@ use mathlib.Core.Option.{Option, none, some}
 use lib.Dec.{eqb}
 use lib.ListN.{length}
 use Rattle.word.specs.Number.{Bytes}
-use Rattle.segment.specs.Choice.{pick, both_left, is_none}
+use Rattle.segment.specs.Choice.{pick, is_none}
+use Rattle.segment.proofs.Choice.{both_left}
 use Rattle.segment.specs.Layout.{Layout, entry_size}
 use Rattle.segment.specs.Entry.{Entry, kind_of, bytes_in}
 use Rattle.segment.specs.declared.Key.{Key}

@@ -12,7 +12,8 @@ use lib.ListN.{length, take}
 use lib.Seq.{take_all}
 use borrow.Author.Tests.{not-false}
 use Rattle.word.specs.Number.{Bytes}
-use Rattle.segment.specs.Choice.{pick, pick-false}
+use Rattle.segment.specs.Choice.{pick}
+use Rattle.segment.proofs.Choice.{pick-false}
 use Rattle.segment.specs.Layout.{Layout, edition2}
 use Rattle.slot_map.specs.Bit.{named}
 use Rattle.segment.specs.declared.Key.{Key}

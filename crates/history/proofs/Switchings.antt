@@ -8,7 +8,8 @@ use mathlib.Core.Logic.{inl, inr}
 use mathlib.Core.List.{List, [], ◌∷◌}
 use mathlib.Core.Option.{Option, none, some}
 use lib.ListN.{length}
-use Rattle.segment.specs.Choice.{pick, both_left}
+use Rattle.segment.specs.Choice.{pick}
+use Rattle.segment.proofs.Choice.{both_left}
 use Rattle.segment.specs.Layout.{Layout}
 use Rattle.record.specs.Range.{in_range, lengths_own, fits_lent}
 use Rattle.record.specs.Switch.{switched_on, switch_said}

@@ -11,9 +11,10 @@ use lib.Dec.{eqb, leb}
 use lib.ListN.{length}
 use borrow.Author.Tests.{leb-true, eqb-true}
 use Rattle.word.specs.Number.{Bytes}
-use Rattle.segment.specs.Choice.{pick, both, both_left, either-false-left, either-false-right, is_none}
+use Rattle.segment.specs.Choice.{pick, both, is_none}
+use Rattle.segment.proofs.Choice.{both_left, either-false-left, either-false-right}
 use Rattle.segment.specs.Layout.{Layout, edition1, edition2, layout_numbered, number_of_layout}
-use Rattle.segment.specs.LayoutLaws.{numbered-layout}
+use Rattle.segment.proofs.LayoutLaws.{numbered-layout}
 use Rattle.record.specs.Range.{between, fits_lent}
 use Rattle.record.specs.declared.FormatAnswer.{FormatAnswer}
 use Rattle.record.specs.declared.Recovery.{Recovery}

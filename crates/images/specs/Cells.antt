@@ -2,7 +2,8 @@
 use Rattle.std.specs.Prelude.{ℕ, suc, ◌+◌, ◌<◌, ◌≤◌, ◌≡◌, refl, Bool, true, false, List, [], ◌∷◌, eqb, length, get_or, drop}
 use Rattle.std.proofs.Math.Path.{sym, ap}
 use Rattle.std.proofs.Common.{◌∙◌, add-one, arith, drop_of_length-le, drop-cons, eq-eqb, ne_eqb}
-use Rattle.segment.specs.Choice.{both, both-false-left}
+use Rattle.segment.specs.Choice.{both}
+use Rattle.segment.proofs.Choice.{both-false-left}
 
 unfoldable pub all_are : ℕ → List ℕ → Bool
 all_are c [] = true

@@ -1,14 +1,10 @@
 pub mod Search
-pub mod Around
-pub mod Probe
 pub mod SearchLaws
 pub mod Finds
-pub mod Front
 pub mod Puts
 pub mod Area
 pub mod Insert
 pub mod InsertLaws
 pub mod Build
-pub mod Entries
 pub mod BuildLaws
 pub mod Turns

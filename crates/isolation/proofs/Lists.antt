@@ -8,7 +8,8 @@ use native.Mathlib.Omega.{arith}
 use lib.Dec.{leb}
 use lib.ListN.{length}
 use borrow.Author.Tests.{leb-true}
-use Rattle.segment.specs.Choice.{both, both_left, both_right, either}
+use Rattle.segment.specs.Choice.{both, either}
+use Rattle.segment.proofs.Choice.{both_left, both_right}
 use Rattle.record.specs.declared.Tables.{Tables}
 use Rattle.record.specs.Reach.{holds_table}
 use Rattle.history.specs.Book.{Event, called, cut}

@@ -9,10 +9,11 @@ use mathlib.Core.Option.{Option, none, some}
 use lib.Dec.{ltb}
 use lib.ListN.{length, get_or, take, drop, length-append, length-drop}
 use borrow.Author.Tests.{leb-true}
-use Rattle.segment.specs.Choice.{pick, both_left, is_none}
+use Rattle.segment.specs.Choice.{pick, is_none}
+use Rattle.segment.proofs.Choice.{both_left}
 use Rattle.segment.specs.Layout.{Layout, entry_size, digest_size, table}
 use Rattle.segment.specs.Entry.{Entry, WellFormed, bytes_in, kind_of, encoded, size_of}
-use Rattle.segment.specs.EntryLaws.{length-encoded, formed-known}
+use Rattle.segment.proofs.EntryLaws.{length-encoded, formed-known}
 use Rattle.segment.specs.Digest.{encoded_digest}
 use Rattle.segment.specs.declared.Key.{Key}
 use Rattle.segment.specs.declared.Version.{Version}

@@ -9,7 +9,8 @@ use lib.ListN.{length}
 use lib.Seq.{sets}
 use borrow.Author.Tests.{ltb-false}
 use Rattle.word.specs.Number.{Bytes}
-use Rattle.segment.specs.Choice.{pick, pick-false}
+use Rattle.segment.specs.Choice.{pick}
+use Rattle.segment.proofs.Choice.{pick-false}
 use Rattle.segment.specs.Layout.{Layout}
 use Rattle.record.specs.Answers.{start_said, with_pending}
 use Rattle.record.specs.Refusals.{number_of_refusal}

@@ -8,13 +8,13 @@ use mathlib.Core.Bool.{Bool, true, not}
 use mathlib.Core.List.{List, [], ◌∷◌, ◌++◌, map, Memᴰ}
 use mathlib.Core.Option.{some}
 use lib.ListN.{length, take}
-use Rattle.segment.specs.Choice.{both_left}
+use Rattle.segment.proofs.Choice.{both_left}
 use Rattle.segment.specs.Layout.{Layout, digest_size, table}
 use Rattle.segment.specs.Entry.{Entry, WellFormed, encoded, size_of}
 use Rattle.segment.specs.Digest.{layout_in}
 use Rattle.segment.specs.declared.Version.{Version}
 use Rattle.slot_map.specs.Bit.{bit, named, within}
-use Rattle.slot_map.specs.NextLaws.{next-clear}
+use Rattle.slot_map.proofs.NextLaws.{next-clear}
 use Rattle.record.specs.RangeLaws.{Lent, lent-switched}
 use Rattle.record.specs.Switch.{unswitched}
 use Rattle.record.specs.declared.Record.{Record}

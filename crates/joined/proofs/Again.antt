@@ -12,16 +12,17 @@ use lib.Dec.{eqb, ltb, leb}
 use lib.ListN.{length}
 use lib.Pow.{pow_pos}
 use borrow.Author.Tests.{le-ltb, ne_eqb, eqb-false, not-false, not-true}
-use Rattle.segment.specs.Choice.{pick, both, both-false-left, both-false-right, either, either-false}
+use Rattle.segment.specs.Choice.{pick, both, either}
+use Rattle.segment.proofs.Choice.{both-false-left, both-false-right, either-false}
 use Rattle.segment.specs.Layout.{Layout, edition2, entry_size, digest_size, version_limit, number_limit}
-use Rattle.segment.specs.LayoutLaws.{known-either}
+use Rattle.segment.proofs.LayoutLaws.{known-either}
 use Rattle.segment.specs.Entry.{Entry}
 use Rattle.segment.specs.declared.Key.{Key}
 use Rattle.slot_map.specs.Bit.{bit, named, within}
-use Rattle.slot_map.specs.BitLaws.{bit-pow-same, bit-pow-other, bit-add-same, bit-add-other, bit-of-zero, named-true, within-of-le}
+use Rattle.slot_map.proofs.BitLaws.{bit-pow-same, bit-pow-other, bit-add-same, bit-add-other, bit-of-zero, named-true, within-of-le}
 use Rattle.slot_map.specs.Count.{used, free}
-use Rattle.slot_map.specs.CountLaws.{used-add, used-of-zero, used-renewed, used-within}
-use Rattle.slot_map.specs.NextLaws.{next-below, next-clear}
+use Rattle.slot_map.proofs.CountLaws.{used-add, used-of-zero, used-renewed, used-within}
+use Rattle.slot_map.proofs.NextLaws.{next-below, next-clear}
 use Rattle.record.specs.Range.{fits_lent}
 use Rattle.record.specs.RangeLaws.{Lent, lent-switched}
 use Rattle.record.specs.Refusals.{number_of_refusal}

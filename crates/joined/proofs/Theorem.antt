@@ -11,7 +11,8 @@ use lib.ListN.{length, take, get_or}
 use lib.Seq.{sets, take_all}
 use borrow.Author.Tests.{le-ltb, ne_eqb, eqb-true, not-false, not-true}
 use Rattle.word.specs.Laws.{taken-sets}
-use Rattle.segment.specs.Choice.{pick, pick-false, pick_true, both, both_left, both_right, is_none}
+use Rattle.segment.specs.Choice.{pick, both, is_none}
+use Rattle.segment.proofs.Choice.{pick-false, pick_true, both_left, both_right}
 use Rattle.segment.specs.Layout.{Layout, number_limit}
 use Rattle.segment.specs.declared.Key.{Key}
 use Rattle.slot_map.specs.Bit.{named}

@@ -14,7 +14,8 @@ use Rattle.model.specs.Operations.{clean, log_now}
 use Rattle.model.specs.Joining.{join_fits, or_else, first_of, pair_with, join_pair, join_causes, pair_said, pair_said_by}
 use Rattle.model.specs.Play.{opened, keyed, tombstone, slot_with, segment_in, cause_number, record_now, start_cause, start_number}
 use Rattle.model.specs.Areas.{small, large, seg, vacant, idle, busy}
-use Rattle.model.specs.Table.{Row, row, failing, Hold, rows-hold}
+use Rattle.model.specs.Table.{Row, row, failing, Hold}
+use Rattle.model.proofs.Table.{rows-hold}
 
 abbrev told : PairSaid → List ℕ
 told p = p.refused ∷ p.first ∷ p.second ∷ []

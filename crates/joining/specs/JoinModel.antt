@@ -13,15 +13,16 @@ use native.Mathlib.Omega.{arith}
 use Rattle.std.proofs.Math.ListN.{length, length-append}
 use Rattle.std.proofs.lemmas.List.{length-replicate}
 use borrow.Author.Tests.{eq-eqb, ne_eqb, eqb-true, le-leb, lt-leb, le-ltb, lt-ltb, ltb-true, ltb-false}
-use Rattle.segment.specs.Choice.{pick, pick_true, pick-false, both, both-false-left, both-false-right, either, either-true-left, either-true-right}
+use Rattle.segment.specs.Choice.{pick, both, either}
+use Rattle.segment.proofs.Choice.{pick_true, pick-false, both-false-left, both-false-right, either-true-left, either-true-right}
 use Rattle.segment.specs.Layout.{Layout, edition1, digest_size, entry_size}
-use Rattle.segment.specs.LayoutLaws.{width_low}
+use Rattle.segment.proofs.LayoutLaws.{width_low}
 use Rattle.segment.specs.Entries.{header_of}
 use Rattle.segment.specs.Entry.{Entry, encoded, size_of, key_of, is_tombstone}
-use Rattle.segment.specs.EntryLaws.{length-encoded}
+use Rattle.segment.proofs.EntryLaws.{length-encoded}
 use Rattle.segment.specs.declared.Key.{Key}
 use Rattle.slot_map.specs.Bit.{bit, named}
-use Rattle.slot_map.specs.BitLaws.{bit-pow-same, bit-pow-other, bit-add-same, bit-add-other, set-named, clear-named}
+use Rattle.slot_map.proofs.BitLaws.{bit-pow-same, bit-pow-other, bit-add-same, bit-add-other, set-named, clear-named}
 use Rattle.record.specs.Switch.{new_layout}
 use Rattle.record.specs.declared.Record.{Record}
 use Rattle.model.specs.Log.{View, Item, Placed, place_of, placed_size, segment_of, views_of, items_of, placed_in, log_of, same_keys, same_key, latest}
@@ -34,11 +35,12 @@ use Rattle.laws.specs.Latest.{Newest, own_key, same_key_lem, latest-some}
 use Rattle.laws.specs.Scans.{done, Scans, more, scan-scans}
 use Rattle.laws.specs.Stores.{slots_apart}
 use Rattle.index.specs.Search.{search_for}
-use Rattle.index.specs.SearchLaws.{search-inside}
+use Rattle.index.proofs.SearchLaws.{search-inside}
 use Rattle.index.specs.declared.Found.{Found}
 use Rattle.cleaning.specs.Entries.{slot_layout, slot_items, slot_holds, object_in}
-use Rattle.cleaning.specs.Outside.{outside-named, slot-items, object-same}
-use Rattle.cleaning.specs.KeptModel.{split_of, encoded-append, kept-front, kept-behind, kept_append, kept-none, Indexed, inside, place-one, KeyCell, key-cell, cell-highest}
+use Rattle.cleaning.proofs.OutsideLaws.{outside-named, slot-items, object-same}
+use Rattle.cleaning.specs.KeptModel.{split_of, Indexed}
+use Rattle.cleaning.proofs.KeptModel.{encoded-append, kept-front, kept-behind, kept_append, kept-none, inside, place-one, KeyCell, key-cell, cell-highest}
 use Rattle.cleaning.specs.declared.Split.{Split}
 use Rattle.joining.specs.declared.Share.{Share}
 use Rattle.joining.specs.Notes.{tells_but, spot_of, cell_spot, elsewhere, note_all, found_length, object_at, objects_of}

@@ -12,9 +12,10 @@ use Rattle.std.proofs.Math.ListN.{length, get_or, length-set}
 use Rattle.std.proofs.lemmas.List.{length-replicate}
 use Rattle.std.proofs.Math.Seq.{get_or-set_other}
 use Rattle.std.proofs.lemmas.Bool.{eqb-false, lt-leb}
-use Rattle.segment.specs.Choice.{pick, pick_true, pick-false, both, either}
+use Rattle.segment.specs.Choice.{pick, both, either}
+use Rattle.segment.proofs.Choice.{pick_true, pick-false}
 use Rattle.segment.specs.Layout.{Layout, digest_size, entry_size}
-use Rattle.segment.specs.LayoutLaws.{width_low, width-high}
+use Rattle.segment.proofs.LayoutLaws.{width_low, width-high}
 use Rattle.segment.specs.Entry.{size_of, key_of, is_tombstone}
 use Rattle.segment.specs.Entries.{header_of}
 use Rattle.segment.specs.declared.Header.{Header}
@@ -27,7 +28,8 @@ use Rattle.index.specs.Build.{entries_at}
 use Rattle.index.specs.Search.{search_for}
 use Rattle.index.specs.declared.Found.{Found}
 use Rattle.cleaning.specs.Entries.{slot_layout, slot_items, is_key_of, is_object, object_in}
-use Rattle.cleaning.specs.EntriesLaws.{Meets, entries-meets, tombstone-length}
+use Rattle.cleaning.specs.EntriesLaws.{Meets, entries-meets}
+use Rattle.cleaning.proofs.EntriesLaws.{tombstone-length}
 use Rattle.cleaning.specs.declared.Split.{Split}
 use Rattle.joining.specs.declared.Sums.{Sums}
 use Rattle.joining.specs.Notes.{NotesFit, note_with, tells_but, spot_of, cell_spot, elsewhere, note_newest, note_cell, note_found, note_entry, note_items, note_slot, note_part, note_below, note_all, found_length, object_at, objects_of, slot_objects, tombstones_of, tombstones_in, Summed, ObjectsCounted, TombstonesCounted}

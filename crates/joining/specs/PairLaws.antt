@@ -5,7 +5,8 @@ use Rattle.std.proofs.Common.{◌∙◌, add-one, arith, ltb-true, lt-ltb}
 use Rattle.std.specs.Prelude.{Bool, true, false, List, ltb, length}
 use Rattle.std.proofs.Math.Option.{Option, none, some}
 use Rattle.std.proofs.Math.Decide.{ℕ_discrete}
-use Rattle.segment.specs.Choice.{pick, pick_true, pick-false, both, both_true, both_left, both_right, both-false-left}
+use Rattle.segment.specs.Choice.{pick, both}
+use Rattle.segment.proofs.Choice.{pick_true, pick-false, both_true, both_left, both_right, both-false-left}
 use Rattle.model.specs.Joining.{or_else, first_of, SlotPair, partner_of, pair_with, lowest_pair}
 use Rattle.cleaning.specs.declared.Split.{Split}
 use Rattle.joining.specs.declared.Partner.{Partner}

@@ -12,7 +12,8 @@ use Rattle.std.proofs.Math.ListN.{length, get_or, length-set}
 use Rattle.std.proofs.lemmas.List.{length-replicate}
 use Rattle.std.proofs.Math.Seq.{get_or-set_same, get_or-set_other}
 use borrow.Author.Tests.{eq-eqb, ne_eqb, lt-ltb, le-ltb, le-leb, lt-leb, eqb-true, eqb-false, leb-true, leb-false, ltb-true, ltb-false}
-use Rattle.segment.specs.Choice.{pick, pick_true, pick-false, either, both, both-false-left, both-false-right}
+use Rattle.segment.specs.Choice.{pick, either, both}
+use Rattle.segment.proofs.Choice.{pick_true, pick-false, both-false-left, both-false-right}
 use Rattle.segment.specs.Layout.{Layout, digest_size, entry_size}
 use Rattle.segment.specs.Entry.{size_of, is_tombstone}
 use Rattle.segment.specs.Entries.{header_of}
@@ -22,7 +23,8 @@ use Rattle.model.specs.Log.{Item, segment_of, placed_in}
 use Rattle.laws.specs.Members.{clash}
 use Rattle.index.specs.Build.{entries_at}
 use Rattle.cleaning.specs.Entries.{slot_layout, slot_items}
-use Rattle.cleaning.specs.EntriesLaws.{Meets, entries-meets, tombstone-length}
+use Rattle.cleaning.specs.EntriesLaws.{Meets, entries-meets}
+use Rattle.cleaning.proofs.EntriesLaws.{tombstone-length}
 use Rattle.cleaning.specs.declared.Split.{Split}
 use Rattle.joining.specs.declared.Share.{Share}
 use Rattle.joining.specs.Notes.{tells_but, spot_of, tombstones_of, tombstones_in, ObjectsCounted}

@@ -5,7 +5,8 @@ use Rattle.std.proofs.Common.{sym, ◌∙◌, subst, mul-le-mul, arith, eq-eqb}
 use Rattle.std.proofs.Math.Path.{ap, subst⁻¹}
 use Rattle.std.proofs.lemmas.List.Edits.{sets}
 use Rattle.std.proofs.lemmas.Bool.{not-true, not-false}
-use Rattle.segment.specs.Choice.{both, both_true}
+use Rattle.segment.specs.Choice.{both}
+use Rattle.segment.proofs.Choice.{both_true}
 use Rattle.segment.specs.declared.Key.{Key}
 use Rattle.segment.specs.declared.Version.{Version}
 use Rattle.record.specs.Answers.{bare, format_said, recover_said, read_said, start_said, step_said, convert_said}
@@ -38,10 +39,10 @@ use Rattle.stepping.specs.Tested.{StepTested}
 use Rattle.index.specs.Search.{search_for}
 use Rattle.index.specs.declared.Found.{Found}
 use Rattle.recovery.specs.Lookups.{lookup_at, looked_up, told_by, part_by}
-use Rattle.recovery.specs.LookupLaws.{looked-unfit, looked-fit, read-promise, value-promise, looked-outside}
+use Rattle.recovery.proofs.LookupLaws.{looked-unfit, looked-fit, read-promise, value-promise, looked-outside}
 use Rattle.recovery.specs.declared.Lookup.{Lookup}
 use Rattle.words.specs.Words.{record_words, words_of, word, counts_in, record_in, is_record, decoded}
-use Rattle.words.specs.WordLaws.{record-long, counts-long, decoded-record, decoded-none, too_short, none-unfit, encode-decode, fits-record, fits-decoded}
+use Rattle.words.proofs.WordLaws.{record-long, counts-long, decoded-record, decoded-none, too_short, none-unfit, encode-decode, fits-record, fits-decoded}
 use Rattle.words.specs.declared.Decoded.{Decoded}
 use Rattle.kurdavel.specs.Crossing.{FormatCrossed, RecoverCrossed, words_after, ReadCrossed, ValueCrossed, Handed, stores_after, StartCrossed, kept_words, StepCrossed, left_told, told_after, slot_told, FewestCrossed, ScanCrossed, ScanValueCrossed, ConvertCrossed}
 use Rattle.model.specs.Scanned.{ScanValue}

@@ -11,7 +11,8 @@ use Rattle.model.specs.Promises.{StepRefused}
 use Rattle.laws.specs.CauseLaws.{refusal-number}
 use Rattle.laws.specs.Members.{clash}
 use Rattle.words.specs.Words.{decoded}
-use Rattle.stepping.specs.Foretold.{OtherIndex, Follows, tell-step}
+use Rattle.stepping.specs.Foretold.{OtherIndex, Follows}
+use Rattle.stepping.proofs.Foretold.{tell-step}
 use Rattle.kurdavel.specs.Crossing.{StepCrossed, place_told, byte_told, TellCrossed}
 
 some_number : (c : Refusal) → number_of_refusal c ≡ 0 → ⊥

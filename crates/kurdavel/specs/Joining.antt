@@ -13,7 +13,7 @@ use Rattle.record.specs.declared.Refusal.TheVariants.{BadRecord}
 use Rattle.model.specs.Joining.{JoinPromise}
 use Rattle.laws.specs.CauseLaws.{cause-first}
 use Rattle.words.specs.Words.{is_record, decoded}
-use Rattle.words.specs.WordLaws.{decoded-none}
+use Rattle.words.proofs.WordLaws.{decoded-none}
 use Rattle.words.specs.declared.Decoded.{Decoded}
 
 -- The call keeps its promise on the record that the words say, and what it says is told; where it is refused both slots are 0.

@@ -26,7 +26,7 @@ use Rattle.model.specs.Causes.{first_cause}
 use Rattle.model.specs.Switching.{switch_causes}
 use Rattle.laws.specs.CauseLaws.{cause-first}
 use Rattle.words.specs.Words.{record_words, is_record, decoded}
-use Rattle.words.specs.WordLaws.{decoded-none}
+use Rattle.words.proofs.WordLaws.{decoded-none}
 use Rattle.words.specs.declared.Decoded.{Decoded}
 use Rattle.kurdavel.specs.Crossing.{RecoverCrossed, ReadCrossed, ValueCrossed, stores_after, StartCrossed, kept_words, StepCrossed, left_told, told_after, place_told, byte_told, TellCrossed, SwitchCrossed}
 use Rattle.kurdavel.specs.CrossingLaws.{none-range}

@@ -33,7 +33,7 @@ use Rattle.writing.specs.TestLaws.{first-bad, write-first}
 use Rattle.writing.specs.Laying.{laid_begun}
 use Rattle.writing.specs.StartLaws.{write-refused, write-laid}
 use Rattle.words.specs.Words.{pending_words, words_of, word, record_in, is_record, decoded}
-use Rattle.words.specs.WordLaws.{counts-long, decoded-record, pending-alone, fits-record}
+use Rattle.words.proofs.WordLaws.{counts-long, decoded-record, pending-alone, fits-record}
 use Rattle.words.specs.declared.Decoded.{Decoded}
 use Rattle.kurdavel.specs.Crossing.{StartCrossed, stores_after}
 use Rattle.kurdavel.specs.CrossingLaws.{same-words, said-long, kept_on, handed, start-crossed, front-says}

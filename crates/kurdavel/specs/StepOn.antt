@@ -22,14 +22,14 @@ use Rattle.model.specs.Promises.{StepPromise}
 use Rattle.laws.specs.OperationsKept.{edition-laws}
 use Rattle.telling.specs.Agree.{agrees_with}
 use Rattle.telling.specs.Next.{PendingIn}
-use Rattle.telling.specs.BareLaws.{found-bad, front_fits as fits_front, found_front}
+use Rattle.telling.proofs.BareLaws.{found-bad, front_fits as fits_front, found_front}
 use Rattle.telling.specs.Told.{found_by, told_by}
-use Rattle.telling.specs.ToldLaws.{told-promise}
+use Rattle.telling.proofs.ToldLaws.{told-promise}
 use Rattle.stepping.specs.Finish.{one_less, advanced}
-use Rattle.stepping.specs.FinishLaws.{advance-left}
-use Rattle.stepping.specs.OnLaws.{found-refused, found-stored, found-known}
+use Rattle.stepping.proofs.FinishLaws.{advance-left}
+use Rattle.stepping.proofs.OnLaws.{found-refused, found-stored, found-known}
 use Rattle.words.specs.Words.{record_words, pending_words, words_of, word, record_in, is_record, decoded}
-use Rattle.words.specs.WordLaws.{too_short, counts-long, decoded-record, decoded-none, none-unfit, fits-record, pending-words, left_alone, encode-decode}
+use Rattle.words.proofs.WordLaws.{too_short, counts-long, decoded-record, decoded-none, none-unfit, fits-record, pending-words, left_alone, encode-decode}
 use Rattle.words.specs.declared.Decoded.{Decoded}
 use Rattle.kurdavel.specs.Crossing.{StepCrossed, kept_words, left_told, told_after, TellCrossed, place_told, byte_told}
 use Rattle.kurdavel.specs.CrossingLaws.{fits-words, front-says, same-words, said-long, kept_on, step-crossed}

@@ -15,7 +15,7 @@ use Rattle.record.specs.declared.SwitchAnswer.{SwitchAnswer}
 use Rattle.model.specs.Switching.{switching}
 use Rattle.switching.specs.SwitchLaws.{bad-promise, busy-promise, taken-promise}
 use Rattle.words.specs.Words.{pending_words, words_of, word, record_in, is_record, switch_number, decoded}
-use Rattle.words.specs.WordLaws.{first_of, second-of, edition-either, pending-words, encode-decode, switch-alone}
+use Rattle.words.proofs.WordLaws.{first_of, second-of, edition-either, pending-words, encode-decode, switch-alone}
 use Rattle.words.specs.declared.Decoded.{Decoded}
 use Rattle.kurdavel.specs.Crossing.{SwitchCrossed}
 use Rattle.kurdavel.specs.CrossingLaws.{range-out, range-in, range-are, range-said, same-words, said-long, kept_on}

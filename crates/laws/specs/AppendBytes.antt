@@ -7,7 +7,7 @@ use Rattle.word.specs.Number.{Bytes}
 use Rattle.segment.specs.Layout.{Layout}
 use Rattle.segment.specs.Digest.{layout_in}
 use Rattle.segment.specs.Entry.{Entry, encoded, size_of, WellFormed, Stands}
-use Rattle.segment.specs.EntryLaws.{length-encoded, bytes-encoded}
+use Rattle.segment.proofs.EntryLaws.{length-encoded, bytes-encoded}
 use Rattle.model.specs.Log.{Item, scanned, scan, segment_of, view_of, views_of}
 use Rattle.model.specs.Operations.{commit, stored}
 use Rattle.laws.specs.Stores.{StoresBytes, Within, Written, slot-inside, length-segment, segment-length, length-stored, bytes-stored, stores-bytes-take, stores-bytes-commit, within-other, within-front, prefix-within, commit-within, commit-written}

@@ -6,9 +6,9 @@ use Rattle.std.proofs.Math.Option.{some}
 use Rattle.segment.specs.Layout.{Layout, digest_size}
 use Rattle.segment.specs.declared.Version.{Version}
 use Rattle.slot_map.specs.Bit.{named, within}
-use Rattle.slot_map.specs.BitLaws.{clear-named}
+use Rattle.slot_map.proofs.BitLaws.{clear-named}
 use Rattle.slot_map.specs.Count.{used}
-use Rattle.slot_map.specs.CountLaws.{renewed-le}
+use Rattle.slot_map.proofs.CountLaws.{renewed-le}
 use Rattle.record.specs.RangeLaws.{map-in}
 use Rattle.record.specs.declared.Record.{Record}
 use Rattle.model.specs.Log.{View, Head, Placed, views_of, log_of, keys_of, version_shared, highest, next_version}

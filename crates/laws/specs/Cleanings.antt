@@ -8,13 +8,14 @@ use Rattle.std.proofs.Math.Pow.{pow_pos}
 use borrow.Author.Tests.{not-false, not-true, ltb-false, eqb-false}
 use Rattle.word.specs.Number.{Bytes}
 use Rattle.word.specs.Laws.{bytes_take, bytes_drop}
-use Rattle.segment.specs.Choice.{both_left, either-false-left, either-false-right, is_none, pick}
+use Rattle.segment.specs.Choice.{is_none, pick}
+use Rattle.segment.proofs.Choice.{both_left, either-false-left, either-false-right}
 use Rattle.segment.specs.Layout.{Layout, digest_size, entry_size, number_limit, table}
 use Rattle.segment.specs.Entry.{Entry, WellFormed, bytes_in}
 use Rattle.segment.specs.declared.Key.{Key}
 use Rattle.segment.specs.declared.Version.{Version}
 use Rattle.slot_map.specs.Bit.{named, within}
-use Rattle.slot_map.specs.BitLaws.{named-true, within-pow}
+use Rattle.slot_map.proofs.BitLaws.{named-true, within-pow}
 use Rattle.record.specs.RangeLaws.{Lent}
 use Rattle.record.specs.Switch.{new_layout, unswitched}
 use Rattle.record.specs.declared.Record.{Record}

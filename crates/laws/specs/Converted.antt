@@ -8,12 +8,13 @@ use Rattle.std.proofs.Math.Option.{Option, none, some}
 use Rattle.std.proofs.Math.Nat.{pow-le-pow_right}
 use Rattle.std.proofs.lemmas.Bool.{not-false}
 use Rattle.word.specs.Number.{Bytes}
-use Rattle.segment.specs.Choice.{both, both_left, both_right, either, either-false, either-false-left, either-false-right}
+use Rattle.segment.specs.Choice.{both, either}
+use Rattle.segment.proofs.Choice.{both_left, both_right, either-false, either-false-left, either-false-right}
 use Rattle.segment.specs.Layout.{Layout, other_layout, digest_size, version_limit, table}
-use Rattle.segment.specs.LayoutLaws.{other-other, known-either, version-good, version-positive, version_below, width_low}
+use Rattle.segment.proofs.LayoutLaws.{other-other, known-either, version-good, version-positive, version_below, width_low}
 use Rattle.segment.specs.Entry.{Entry, length_known, WellFormed}
-use Rattle.segment.specs.EntryLaws.{found-stands}
-use Rattle.segment.specs.DigestLaws.{digest-number-fits, digest-map-fits, digest-next-fits}
+use Rattle.segment.proofs.EntryLaws.{found-stands}
+use Rattle.segment.proofs.DigestLaws.{digest-number-fits, digest-map-fits, digest-next-fits}
 use Rattle.segment.specs.Digest.{digest_of}
 use Rattle.segment.specs.declared.Digest.{Digest}
 use Rattle.segment.specs.declared.Key.{Key}

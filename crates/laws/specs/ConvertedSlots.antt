@@ -14,11 +14,12 @@ use Rattle.std.proofs.lemmas.List.{length-replicate, take-append-le, drop-append
 use Rattle.std.proofs.Math.Seq.{take-append_seam}
 use Rattle.word.specs.Number.{Bytes}
 use Rattle.word.specs.Laws.{bytes-append}
-use Rattle.segment.specs.Choice.{pick, pick_true, pick-false, both}
+use Rattle.segment.specs.Choice.{pick, both}
+use Rattle.segment.proofs.Choice.{pick_true, pick-false}
 use Rattle.segment.specs.Layout.{Layout, digest_size, table}
 use Rattle.segment.specs.Entry.{Entry, WellFormed}
 use Rattle.segment.specs.Digest.{encoded_digest}
-use Rattle.segment.specs.DigestLaws.{bytes-encoded_digest}
+use Rattle.segment.proofs.DigestLaws.{bytes-encoded_digest}
 use Rattle.segment.specs.declared.Digest.{Digest}
 use Rattle.model.specs.Log.{View, scanned, segment_of, view_of, views_of}
 use Rattle.model.specs.Operations.{all_encoded}

@@ -10,13 +10,14 @@ use native.Mathlib.Omega.{arith}
 use Rattle.std.proofs.Math.ListN.{length-set, get_or-replicate, get_or-eq_default}
 use Rattle.std.proofs.lemmas.List.{length-replicate}
 use borrow.Author.Tests.{eq-eqb, ne_eqb, eqb-false}
-use Rattle.segment.specs.Choice.{both, both_true, both-false-right, pick, pick_true, pick-false, either-false-left, either-false-right}
+use Rattle.segment.specs.Choice.{both, pick}
+use Rattle.segment.proofs.Choice.{both_true, both-false-right, pick_true, pick-false, either-false-left, either-false-right}
 use Rattle.segment.specs.Layout.{Layout}
 use Rattle.segment.specs.Entry.{Entry, key_of, is_tombstone, encoded}
-use Rattle.segment.specs.EntryLaws.{length-encoded}
+use Rattle.segment.proofs.EntryLaws.{length-encoded}
 use Rattle.segment.specs.declared.Key.{Key}
 use Rattle.slot_map.specs.Bit.{named}
-use Rattle.slot_map.specs.BitLaws.{bit-pow-same, set-named}
+use Rattle.slot_map.proofs.BitLaws.{bit-pow-same, set-named}
 use Rattle.record.specs.Range.{counts_good}
 use Rattle.record.specs.RangeLaws.{counts-true}
 use Rattle.model.specs.Log.{View, Item, items_of, placed_in, log_of, Placed, placed_size, same_key, is_version, object_only, present, has_version, version_shared, highest}

@@ -7,7 +7,7 @@ use Rattle.std.proofs.Math.Bool.{not}
 use Rattle.std.proofs.Math.Option.{Option, none, some}
 use Rattle.segment.specs.Choice.{pick, both}
 use Rattle.segment.specs.Layout.{Layout, edition1, edition2, same_layout, digest_size, version_limit, table}
-use Rattle.segment.specs.LayoutLaws.{known-either, version-good, version-positive, version_below}
+use Rattle.segment.proofs.LayoutLaws.{known-either, version-good, version-positive, version_below}
 use Rattle.segment.specs.Entry.{Entry, length_known, WellFormed}
 use Rattle.segment.specs.declared.Edition.TheVariants.{First, Second}
 use Rattle.record.specs.Switch.{new_layout}

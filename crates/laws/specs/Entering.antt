@@ -4,9 +4,10 @@ use Rattle.std.specs.Prelude.{ℕ, ◌+◌, ◌-◌, ◌≤◌, ◌<◌, ◌≡�
 use Rattle.std.proofs.Common.{arith, ap, ◌∙◌, subst, ltb-false, ltb-true}
 use Rattle.std.proofs.Math.Option.{Option, none, some}
 use Rattle.std.proofs.lemmas.Bool.{eqb-false}
-use Rattle.segment.specs.Choice.{pick, both, both_right, is_none}
+use Rattle.segment.specs.Choice.{pick, both, is_none}
+use Rattle.segment.proofs.Choice.{both_right}
 use Rattle.segment.specs.Layout.{Layout, value_length, entry_size, digest_size, version_limit, number_limit, table}
-use Rattle.segment.specs.LayoutLaws.{version-good, known-either}
+use Rattle.segment.proofs.LayoutLaws.{version-good, known-either}
 use Rattle.segment.specs.Entry.{Entry, bytes_in, length_known, WellFormed}
 use Rattle.segment.specs.declared.Key.{Key}
 use Rattle.slot_map.specs.Count.{used}

@@ -6,14 +6,15 @@ use Rattle.std.proofs.Math.Path.{refl, subst⁻¹}
 use Rattle.std.proofs.Math.Bool.{Bool, true}
 use Rattle.std.proofs.Math.Option.{some}
 use Rattle.word.specs.Number.{Bytes}
-use Rattle.segment.specs.Choice.{pick, both_left}
+use Rattle.segment.specs.Choice.{pick}
+use Rattle.segment.proofs.Choice.{both_left}
 use Rattle.segment.specs.Layout.{Layout, digest_size}
 use Rattle.segment.specs.Entry.{Entry, WellFormed, bytes_in, kind_of, encoded, size_of}
-use Rattle.segment.specs.EntryLaws.{length-encoded, formed-known}
+use Rattle.segment.proofs.EntryLaws.{length-encoded, formed-known}
 use Rattle.segment.specs.Digest.{encoded_digest}
 use Rattle.segment.specs.declared.Key.{Key}
 use Rattle.slot_map.specs.Bit.{named}
-use Rattle.slot_map.specs.NextLaws.{next-clear}
+use Rattle.slot_map.proofs.NextLaws.{next-clear}
 use Rattle.record.specs.RangeLaws.{Lent, lent-switched}
 use Rattle.record.specs.Switch.{new_layout, unswitched}
 use Rattle.record.specs.declared.Record.{Record}

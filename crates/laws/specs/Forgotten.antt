@@ -9,11 +9,12 @@ use Rattle.std.proofs.Math.Option.{Option, none, some}
 use Rattle.std.proofs.Math.Decide.{ℕ_discrete}
 use native.Mathlib.Omega.{arith}
 use borrow.Author.Tests.{eq-eqb, ne_eqb}
-use Rattle.segment.specs.Choice.{pick, pick_true, pick-false, both, both-false-left, either}
+use Rattle.segment.specs.Choice.{pick, both, either}
+use Rattle.segment.proofs.Choice.{pick_true, pick-false, both-false-left}
 use Rattle.segment.specs.Entry.{Entry, key_of, is_tombstone}
 use Rattle.segment.specs.declared.Key.{Key}
 use Rattle.slot_map.specs.Bit.{named}
-use Rattle.slot_map.specs.BitLaws.{bit-pow-same, set-named}
+use Rattle.slot_map.proofs.BitLaws.{bit-pow-same, set-named}
 use Rattle.model.specs.Log.{Placed, same_key, latest, later_of, object_only, present, has_key, keys_of, version_shared, highest}
 use Rattle.model.specs.Operations.{is_version, is_highest, object_outside, is_kept, replaced}
 use Rattle.laws.specs.Members.{clash, In, first, entries_of, those, total}

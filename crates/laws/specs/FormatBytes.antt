@@ -11,7 +11,7 @@ use Rattle.word.specs.Number.{Bytes}
 use Rattle.word.specs.Laws.{bytes-set, bytes-append, sets-append}
 use Rattle.segment.specs.Layout.{Layout, digest_size, table}
 use Rattle.segment.specs.Digest.{encoded_digest}
-use Rattle.segment.specs.DigestLaws.{length-encoded_digest, bytes-encoded_digest}
+use Rattle.segment.proofs.DigestLaws.{length-encoded_digest, bytes-encoded_digest}
 use Rattle.model.specs.Log.{scanned, segment_of, views_of}
 use Rattle.model.specs.Operations.{all_encoded, stores_from, stored, cleared, first_digest, formatted}
 use Rattle.laws.specs.Stores.{Written, slot-inside, length-segment, first-own, first-other, length-stored, bytes-stored, stores-bytes-from, run-own, run-other, written-ended}

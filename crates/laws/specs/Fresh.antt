@@ -9,13 +9,14 @@ use mathlib.Core.List.{List, []}
 use Rattle.std.proofs.Math.Option.{Option, none, some}
 use Rattle.std.proofs.Math.Pow.{pow_mono}
 use Rattle.std.proofs.lemmas.Bool.{not-false}
-use Rattle.segment.specs.Choice.{both, both_left, both_right}
+use Rattle.segment.specs.Choice.{both}
+use Rattle.segment.proofs.Choice.{both_left, both_right}
 use Rattle.segment.specs.Layout.{Layout, digest_size, table}
-use Rattle.segment.specs.LayoutLaws.{tombstone-length}
+use Rattle.segment.proofs.LayoutLaws.{tombstone-length}
 use Rattle.segment.specs.declared.Digest.{Digest}
 use Rattle.slot_map.specs.Bit.{bit, named}
-use Rattle.slot_map.specs.BitLaws.{bit-above, clear-named}
-use Rattle.slot_map.specs.CountLaws.{used-free}
+use Rattle.slot_map.proofs.BitLaws.{bit-above, clear-named}
+use Rattle.slot_map.proofs.CountLaws.{used-free}
 use Rattle.record.specs.Range.{slots_good, size_good, cells_good}
 use Rattle.record.specs.RangeLaws.{between-low}
 use Rattle.model.specs.Log.{View, Head, Placed, scanned, views_of, head_of, placed_in, is_damaged, keys_of, version_shared, highest, next_version}

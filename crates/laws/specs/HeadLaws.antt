@@ -9,7 +9,8 @@ use Rattle.std.proofs.Math.Decide.{ℕ_discrete, dec_lt}
 use native.Mathlib.Omega.{arith}
 use Rattle.std.proofs.Math.Dec.{ltb}
 use borrow.Author.Tests.{ltb-true, ltb-false, eq-eqb, ne_eqb}
-use Rattle.segment.specs.Choice.{pick, pick_true, pick-false}
+use Rattle.segment.specs.Choice.{pick}
+use Rattle.segment.proofs.Choice.{pick_true, pick-false}
 use Rattle.segment.specs.declared.Digest.{Digest}
 use Rattle.model.specs.Log.{View, Head, newer, head_of}
 use Rattle.model.specs.Recovery.{has_number, sharing}

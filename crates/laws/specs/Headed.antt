@@ -7,17 +7,18 @@ use mathlib.Core.List.{List, [], ◌∷◌}
 use Rattle.std.proofs.Math.Option.{some}
 use Rattle.std.proofs.Math.Decide.{ℕ_discrete}
 use Rattle.std.proofs.Math.Dec.{eqb}
-use Rattle.segment.specs.Choice.{both, both_left, both-false-left}
+use Rattle.segment.specs.Choice.{both}
+use Rattle.segment.proofs.Choice.{both_left, both-false-left}
 use Rattle.segment.specs.Layout.{Layout, digest_size}
 use Rattle.segment.specs.Entry.{Entry}
-use Rattle.segment.specs.EntryLaws.{length-encoded}
+use Rattle.segment.proofs.EntryLaws.{length-encoded}
 use Rattle.segment.specs.declared.Digest.{Digest}
 use Rattle.segment.specs.declared.Version.{Version}
 use Rattle.slot_map.specs.Bit.{bit, named, within}
-use Rattle.slot_map.specs.BitLaws.{bit-cases, bit-of-zero, bit-add-same, bit-add-other, bit-sub, within-of-le, set-named, clear-named, add-below}
+use Rattle.slot_map.proofs.BitLaws.{bit-cases, bit-of-zero, bit-add-same, bit-add-other, bit-sub, within-of-le, set-named, clear-named, add-below}
 use Rattle.slot_map.specs.Count.{used}
-use Rattle.slot_map.specs.CountLaws.{clear-sub, used-renewed}
-use Rattle.slot_map.specs.NextLaws.{next-below, next-clear}
+use Rattle.slot_map.proofs.CountLaws.{clear-sub, used-renewed}
+use Rattle.slot_map.proofs.NextLaws.{next-below, next-clear}
 use Rattle.record.specs.RangeLaws.{map-in}
 use Rattle.record.specs.declared.Record.{Record}
 use Rattle.model.specs.Log.{View, Head, Placed, scanned, end_of, is_damaged, placed_in, views_of, log_of, keys_of, version_shared, highest, next_version, Item}

@@ -2,7 +2,8 @@
 use Rattle.std.specs.Prelude.{◌+◌, ◌≤◌, ◌≡◌, refl, Bool, true, false, List, [], ◌∷◌, length}
 use Rattle.std.proofs.Common.{sym, ◌∙◌, arith}
 use mathlib.Core.List.Memᴰ
-use Rattle.segment.specs.Choice.{pick, either, either-true-left, either-true-right}
+use Rattle.segment.specs.Choice.{pick, either}
+use Rattle.segment.proofs.Choice.{either-true-left, either-true-right}
 use Rattle.segment.specs.Entry.{key_of}
 use Rattle.segment.specs.declared.Key.{Key}
 use Rattle.model.specs.Log.{Placed, same_key, has_key, keys_of}

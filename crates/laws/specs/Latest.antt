@@ -3,8 +3,9 @@ use Rattle.std.specs.Prelude.{ℕ, ◌≤◌, ◌≡◌, refl, Bool, true, false
 use Rattle.std.proofs.Common.{sym, ◌∙◌, ap, arith, eq-eqb, eqb-true, ltb-true, ltb-false}
 use mathlib.Core.List.Memᴰ
 use Rattle.std.proofs.Math.Option.{Option, none, some}
-use Rattle.segment.specs.Choice.{pick, both_left, both_right, both_true, either}
-use Rattle.segment.specs.Choice.{either-true-left, either-true-right}
+use Rattle.segment.specs.Choice.{pick, either}
+use Rattle.segment.proofs.Choice.{both_left, both_right, both_true}
+use Rattle.segment.proofs.Choice.{either-true-left, either-true-right}
 use Rattle.segment.specs.Entry.{Entry, key_of}
 use Rattle.segment.specs.declared.Key.{Key}
 use Rattle.model.specs.Log.{Placed, same_keys, same_key, later_of, latest, has_key}

@@ -9,14 +9,15 @@ use mathlib.Core.List.{List, [], ◌∷◌, ◌++◌, append_assoc, append-nil}
 use Rattle.std.proofs.Math.Option.{Option, none, some}
 use Rattle.std.proofs.Math.Decide.{ℕ_discrete}
 use native.Mathlib.Omega.{arith}
-use Rattle.segment.specs.Choice.{pick, pick_true, pick-false, both, either, either-false, either-false-left, either-false-right, is_none}
+use Rattle.segment.specs.Choice.{pick, both, either, is_none}
+use Rattle.segment.proofs.Choice.{pick_true, pick-false, either-false, either-false-left, either-false-right}
 use Rattle.segment.specs.Entry.{key_of}
 use Rattle.segment.specs.declared.Digest.{Digest}
 use Rattle.model.specs.Log.{View, Item, Placed, Scan, damaged, scanned, items_of, end_of, is_damaged, placed_in, log_of, keys_of, has_version, version_shared, highest}
 use Rattle.model.specs.Operations.{count_new}
 use Rattle.std.proofs.lemmas.Bool.{not-false}
 use Rattle.segment.specs.Layout.{Layout, same_layout}
-use Rattle.segment.specs.LayoutLaws.{same_layout_lem, layout-same}
+use Rattle.segment.proofs.LayoutLaws.{same_layout_lem, layout-same}
 use Rattle.model.specs.Recovery.{later, later_edition, names_no_digest, log_damaged, other_edition}
 use Rattle.laws.specs.Members.{In, Within, Same, Added, added-between, those, total}
 use Rattle.laws.specs.Versions.{count, count-append, shared-fewer, shared-append, below-highest, highest-added}

@@ -7,7 +7,8 @@ use mathlib.Core.List.Memᴰ
 use mathlib.Core.List.{List, [], ◌∷◌, ◌++◌}
 use Rattle.std.proofs.Math.Option.{Option, none, some}
 use Rattle.std.proofs.lemmas.Bool.{not-true}
-use Rattle.segment.specs.Choice.{pick, pick_true, both, both_left, both_right, both_true, either, either-true-left, either-true-right}
+use Rattle.segment.specs.Choice.{pick, both, either}
+use Rattle.segment.proofs.Choice.{pick_true, both_left, both_right, both_true, either-true-left, either-true-right}
 use Rattle.segment.specs.Layout.{Layout}
 use Rattle.segment.specs.Entry.{Entry, encoded, size_of, key_of, is_tombstone}
 use Rattle.segment.specs.declared.Key.{Key}

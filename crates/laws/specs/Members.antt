@@ -3,7 +3,8 @@ use Rattle.std.specs.Prelude.{ℕ, suc, ◌+◌, ◌≤◌, ◌≡◌, refl, Boo
 use Rattle.std.proofs.Common.{sym, ◌∙◌, ap, inl, inr, arith}
 use mathlib.Core.List.Memᴰ
 use mathlib.Core.List.{List, [], ◌∷◌, ◌++◌, Memᴰ}
-use Rattle.segment.specs.Choice.{pick, pick_true}
+use Rattle.segment.specs.Choice.{pick}
+use Rattle.segment.proofs.Choice.{pick_true}
 use Rattle.segment.specs.Entry.{Entry}
 use Rattle.model.specs.Log.{Placed}
 

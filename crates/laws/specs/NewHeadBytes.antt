@@ -12,7 +12,7 @@ use Rattle.word.specs.Laws.{bytes-append}
 use Rattle.segment.specs.Layout.{Layout, digest_size, table}
 use Rattle.segment.specs.Entry.{Entry, WellFormed}
 use Rattle.segment.specs.Digest.{encoded_digest, layout_in}
-use Rattle.segment.specs.DigestLaws.{length-encoded_digest, bytes-encoded_digest}
+use Rattle.segment.proofs.DigestLaws.{length-encoded_digest, bytes-encoded_digest}
 use Rattle.segment.specs.declared.Digest.{Digest}
 use Rattle.model.specs.Log.{scanned, scan, segment_of, digest_in, view_of, views_of}
 use Rattle.model.specs.Operations.{all_encoded, commit, stored}

@@ -5,17 +5,19 @@ use Rattle.std.proofs.Math.Path.{refl, ap}
 use Rattle.std.proofs.Math.Bool.{true, false}
 use Rattle.std.proofs.Math.Option.{Option, none, some}
 use Rattle.std.proofs.Math.Seq.{take-length}
-use Rattle.segment.specs.Choice.{pick, pick_true, pick-false, both, both_left, both_right, is_none}
-use Rattle.segment.specs.Packed.{field_at}
+use Rattle.segment.specs.Choice.{pick, both, is_none}
+use Rattle.segment.proofs.Choice.{pick_true, pick-false, both_left, both_right}
+use Rattle.segment.proofs.Packed.{field_at}
 use Rattle.segment.specs.declared.Edition.TheVariants.{First, Second}
 use Rattle.segment.specs.Layout.{Layout, edition1, edition2, lookup, value_length, digest_size, entry_size, table}
 use Rattle.segment.specs.Digest.{layout_in}
 use Rattle.segment.specs.Entry.{Entry, is_tombstone, bytes_in, size_of, entry_at, entry}
-use Rattle.segment.specs.EntryLaws.{Readable, found-readable, found-bytes}
+use Rattle.segment.specs.EntryLaws.{Readable}
+use Rattle.segment.proofs.EntryLaws.{found-readable, found-bytes}
 use Rattle.segment.specs.declared.Key.{Key}
 use Rattle.segment.specs.declared.Version.{Version}
 use Rattle.slot_map.specs.Bit.{named}
-use Rattle.slot_map.specs.NextLaws.{next-clear}
+use Rattle.slot_map.proofs.NextLaws.{next-clear}
 use Rattle.record.specs.RangeLaws.{Lent, lent-switched}
 use Rattle.record.specs.Switch.{new_layout, unswitched}
 use Rattle.record.specs.declared.Record.{Record}

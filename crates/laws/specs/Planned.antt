@@ -10,18 +10,19 @@ use mathlib.Core.List.{List, [], ◌∷◌, ◌++◌, Memᴰ}
 use Rattle.std.proofs.Math.Option.{some}
 use Rattle.std.proofs.Math.ListN.{length}
 use Rattle.word.specs.Number.{Bytes}
-use Rattle.segment.specs.Choice.{pick, both_left}
+use Rattle.segment.specs.Choice.{pick}
+use Rattle.segment.proofs.Choice.{both_left}
 use Rattle.segment.specs.Layout.{Layout, digest_size, entry_size, table}
 use Rattle.segment.specs.Entry.{Entry, WellFormed, bytes_in, kind_of, encoded, size_of}
-use Rattle.segment.specs.EntryLaws.{length-encoded, formed-known}
+use Rattle.segment.proofs.EntryLaws.{length-encoded, formed-known}
 use Rattle.segment.specs.Digest.{encoded_digest}
 use Rattle.segment.specs.declared.Digest.{Digest}
 use Rattle.segment.specs.declared.Key.{Key}
 use Rattle.segment.specs.declared.Version.{Version}
 use Rattle.slot_map.specs.Bit.{named, within}
-use Rattle.slot_map.specs.BitLaws.{clear-named, add-below}
-use Rattle.slot_map.specs.CountLaws.{clear-sub}
-use Rattle.slot_map.specs.NextLaws.{next-below, next-clear}
+use Rattle.slot_map.proofs.BitLaws.{clear-named, add-below}
+use Rattle.slot_map.proofs.CountLaws.{clear-sub}
+use Rattle.slot_map.proofs.NextLaws.{next-below, next-clear}
 use Rattle.record.specs.RangeLaws.{Lent, lent-switched}
 use Rattle.record.specs.Switch.{new_layout, unswitched}
 use Rattle.record.specs.declared.Record.{Record}

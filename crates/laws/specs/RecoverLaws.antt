@@ -6,14 +6,15 @@ use Rattle.std.proofs.Math.Bool.{true, false, not}
 use Rattle.std.proofs.Math.Option.{Option, none, some}
 use Rattle.std.proofs.Math.Decide.{ℕ_discrete}
 use borrow.Author.Tests.{ltb-false, eqb-true, eqb-false, not-false, lt-ltb, le-ltb, eq-eqb, ne_eqb}
-use Rattle.segment.specs.Choice.{pick, pick_true, both_left, both_right, both_true, either-false, either-false-left, either-false-right, is_none}
+use Rattle.segment.specs.Choice.{pick, is_none}
+use Rattle.segment.proofs.Choice.{pick_true, both_left, both_right, both_true, either-false, either-false-left, either-false-right}
 use Rattle.word.specs.Number.{Bytes}
 use Rattle.word.specs.Laws.{bytes_take, bytes_drop}
 use Rattle.segment.specs.Layout.{Layout, same_layout, digest_size, version_limit, number_limit, table}
-use Rattle.segment.specs.LayoutLaws.{version_below, same_layout_lem, layout-same}
+use Rattle.segment.proofs.LayoutLaws.{version_below, same_layout_lem, layout-same}
 use Rattle.segment.specs.Entry.{Entry, entry, entry_at}
-use Rattle.segment.specs.EntryLaws.{found-readable}
-use Rattle.segment.specs.DigestLaws.{digest-number-fits, digest-next-fits}
+use Rattle.segment.proofs.EntryLaws.{found-readable}
+use Rattle.segment.proofs.DigestLaws.{digest-number-fits, digest-next-fits}
 use Rattle.segment.specs.Digest.{digest_of, layout_in}
 use Rattle.segment.specs.declared.Digest.{Digest}
 use Rattle.slot_map.specs.Bit.{named}

@@ -9,13 +9,13 @@ use Rattle.std.proofs.Math.ListN.{length}
 use borrow.Author.Tests.{le-ltb}
 use Rattle.segment.specs.Layout.{Layout, digest_size}
 use Rattle.segment.specs.Entry.{bytes_in, encoded}
-use Rattle.segment.specs.EntryLaws.{length-encoded}
+use Rattle.segment.proofs.EntryLaws.{length-encoded}
 use Rattle.segment.specs.declared.Key.{Key}
 use Rattle.slot_map.specs.Bit.{named, within}
-use Rattle.slot_map.specs.BitLaws.{bit-pow-other, named-true, set_below}
-use Rattle.slot_map.specs.NextLaws.{next-below, next-clear}
+use Rattle.slot_map.proofs.BitLaws.{bit-pow-other, named-true, set_below}
+use Rattle.slot_map.proofs.NextLaws.{next-below, next-clear}
 use Rattle.slot_map.specs.Count.{used, free}
-use Rattle.slot_map.specs.CountLaws.{renewed-le, used-add}
+use Rattle.slot_map.proofs.CountLaws.{renewed-le, used-add}
 use Rattle.record.specs.RangeLaws.{Lent, lent-switched}
 use Rattle.record.specs.Switch.{new_layout, unswitched}
 use Rattle.record.specs.declared.Record.{Record}

@@ -11,14 +11,16 @@ use Rattle.std.proofs.Math.ListN.{length, take, drop, length-append}
 use Rattle.std.proofs.Math.Seq.{take-length, take-append_seam, drop-append_seam}
 use Rattle.word.specs.Number.{Bytes}
 use Rattle.word.specs.Laws.{bytes-append}
-use Rattle.segment.specs.Choice.{pick, pick_true, pick-false}
-use Rattle.segment.specs.Layout.{Layout, digest_size, digest-not-end, table}
-use Rattle.segment.specs.Packed.{take-drop-take}
+use Rattle.segment.specs.Choice.{pick}
+use Rattle.segment.proofs.Choice.{pick_true, pick-false}
+use Rattle.segment.specs.Layout.{Layout, digest_size, table}
+use Rattle.segment.proofs.LayoutFacts.{digest-not-end}
+use Rattle.segment.proofs.Packed.{take-drop-take}
 use Rattle.segment.specs.Entry.{Entry, Found, entry, end, damage, entry_at, encoded, size_of, WellFormed, Stands}
-use Rattle.segment.specs.EntryLaws.{length-encoded, bytes-encoded, found-fits, found-end, found-stands, stands-found, zero-end, own-bytes, own-end}
+use Rattle.segment.proofs.EntryLaws.{length-encoded, bytes-encoded, found-fits, found-end, found-stands, stands-found, zero-end, own-bytes, own-end}
 use Rattle.segment.specs.Digest.{digest_of, encoded_digest, layout_in}
-use Rattle.segment.specs.LayoutLaws.{layout-in, layout-byte}
-use Rattle.segment.specs.DigestLaws.{digest-own-bytes, digest-decoded}
+use Rattle.segment.proofs.LayoutLaws.{layout-in, layout-byte}
+use Rattle.segment.proofs.DigestLaws.{digest-own-bytes, digest-decoded}
 use Rattle.segment.specs.declared.Digest.{Digest}
 use Rattle.model.specs.Log.{Item, Scan, damaged, scanned, item_first, scan_from, scan, placed_in, digest_in, view_of}
 use Rattle.model.specs.Operations.{all_encoded, placed_from}

@@ -4,7 +4,7 @@ use Rattle.std.proofs.Common.{sym, ap, ◌∙◌}
 use Rattle.std.proofs.Math.Option.{Option, none, some}
 use Rattle.std.proofs.Math.Seq.{length-sets}
 use Rattle.std.proofs.lemmas.Bool.{not-false}
-use Rattle.segment.specs.Choice.{both-false-right}
+use Rattle.segment.proofs.Choice.{both-false-right}
 use Rattle.segment.specs.Layout.{Layout, entry_size}
 use Rattle.segment.specs.declared.Key.{Key}
 use Rattle.record.specs.Refusals.{number_of_refusal}

@@ -9,7 +9,8 @@ use Rattle.std.proofs.Math.Seq.{length-sets, take-set-lt, take-set-le, take-leng
 use Rattle.std.proofs.lemmas.List.{set_comm, get_or_at, drop-set-add, take-append-le}
 use Rattle.word.specs.Number.{Bytes}
 use Rattle.word.specs.Laws.{bytes_drop, bytes-set, taken-sets}
-use Rattle.segment.specs.Choice.{pick, pick_true, pick-false}
+use Rattle.segment.specs.Choice.{pick}
+use Rattle.segment.proofs.Choice.{pick_true, pick-false}
 use Rattle.model.specs.Log.{segment_of}
 use Rattle.model.specs.Operations.{stores_from, commit, stored}
 

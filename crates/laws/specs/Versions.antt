@@ -4,7 +4,8 @@ use Rattle.std.proofs.Common.{sym, ◌∙◌, ap, arith, eq-eqb, eqb-true}
 use mathlib.Core.List.Memᴰ
 use Rattle.std.proofs.Math.Decide.{dec_le}
 use Rattle.std.proofs.Math.Nat.{le-max_left, le-max_right, max-le}
-use Rattle.segment.specs.Choice.{pick, pick_true, pick-false, either, either-false, either-false-left, either-false-right}
+use Rattle.segment.specs.Choice.{pick, either}
+use Rattle.segment.proofs.Choice.{pick_true, pick-false, either-false, either-false-left, either-false-right}
 use Rattle.segment.specs.Entry.{Entry}
 use Rattle.model.specs.Log.{Placed, has_version, version_shared, highest}
 use Rattle.laws.specs.Members.{In, first, Within, Same, Added, added-same, entries_of, entries-append, total, total-append}

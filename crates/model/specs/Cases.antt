@@ -3,9 +3,9 @@ use Rattle.std.specs.Prelude.{ℕ, ◌≡◌, refl, List, [], ◌∷◌, ◌++�
 use Rattle.segment.specs.declared.Key.{Key}
 use Rattle.model.specs.Operations.{Operation, write, delete, clean}
 use Rattle.model.specs.Refused.{format_causes}
-use Rattle.model.specs.Play.{opened, fresh_over, keyed, object, tombstone, slot_with, segment_with, first, recovers, starts, begins, steps_to, ends, stores, cut_after, played, played_all, reads, keeps}
+use Rattle.model.specs.Play.{fresh_over, keyed, object, tombstone, slot_with, segment_with, first, recovers, starts, begins, steps_to, ends, stores, cut_after, played, played_all, reads, keeps}
 use Rattle.model.specs.Expected.{holds, gives, refused_by, to_come, remaining, done, shows}
-use Rattle.model.specs.Table.{Row, row, failing, Hold, joined, rows-hold}
+use Rattle.model.specs.Table.{Row, row}
 
 -- The bytes that stood in the area before the format are 255, which is no kind.
 abbrev fresh : List ℕ
@@ -39,14 +39,14 @@ deleted = played written (delete nine)
 abbrev cleaned : List ℕ
 cleaned = played deleted (clean 1)
 
-abbrev case1 : List Row
+abbrev pub case1 : List Row
 case1 =
     row 1 (first (format_causes 1 4 256 1024) ∷ take 14 fresh) (0 ∷ fresh_digest ++ 0x00 ∷ [])
     ∷ row 1 (drop 14 fresh) (replicate 242 255 ++ 0 ∷ replicate 255 255 ++ 0 ∷ replicate 255 255 ++ 0 ∷ replicate 255 255)
     ∷ row 1 (recovers fresh) (gives (record { head = 0; end = 13; digest = 1; map = 1; next = 1; keys = 0; left = 0 }))
     ∷ []
 
-abbrev case2 : List Row
+abbrev pub case2 : List Row
 case2 =
     row 2 (starts fresh writing) (to_come 20 ++ holds (record { head = 0; end = 13; digest = 1; map = 1; next = 1; keys = 0; left = 20 }))
     ∷ row 2 (begins fresh writing).work (written_bytes ++ replicate 237 170)
@@ -55,7 +55,7 @@ case2 =
     ∷ row 2 (ends fresh writing) (done 1 ++ holds (record { head = 0; end = 32; digest = 1; map = 1; next = 2; keys = 1; left = 0 }))
     ∷ []
 
-abbrev case3 : List Row
+abbrev pub case3 : List Row
 case3 =
     row 3 (recovers (cut_after 19 fresh writing)) (gives (record { head = 0; end = 13; digest = 1; map = 1; next = 1; keys = 0; left = 0 }))
     ∷ row 3 (reads (cut_after 19 fresh writing) nine) (refused_by 8)
@@ -63,7 +63,7 @@ case3 =
     ∷ row 3 (reads (cut_after 20 fresh writing) nine) (shows 1 1 (replicate 8 0x11))
     ∷ []
 
-abbrev case4 : List Row
+abbrev pub case4 : List Row
 case4 =
     row 4 (starts written (delete nine)) (to_come 12 ++ holds (record { head = 0; end = 32; digest = 1; map = 1; next = 2; keys = 1; left = 12 }))
     ∷ row 4 deleted (fresh_digest ++ written_bytes ++ tombstone_bytes ++ 0 ∷ drop 44 fresh)
@@ -71,7 +71,7 @@ case4 =
     ∷ row 4 (reads deleted nine) (refused_by 8)
     ∷ []
 
-abbrev case5 : List Row
+abbrev pub case5 : List Row
 case5 =
     row 5 (starts deleted (clean 1)) (to_come 15 ++ holds (record { head = 0; end = 43; digest = 1; map = 1; next = 3; keys = 1; left = 15 }))
     ∷ row 5 (keeps deleted 1) []
@@ -105,7 +105,7 @@ nearly_full = played_all fresh filling
 abbrev last_one : Operation
 last_one = delete (keyed 1 5)
 
-abbrev case6 : List Row
+abbrev pub case6 : List Row
 case6 =
     row 6 (stores_of_all fresh filling) (68 ∷ 68 ∷ 20 ∷ 20 ∷ 20 ∷ 20 ∷ 12 ∷ 12 ∷ [])
     ∷ row 6 (recovers nearly_full) (gives (record { head = 0; end = 245; digest = 1; map = 1; next = 9; keys = 6; left = 0 }))
@@ -114,7 +114,7 @@ case6 =
     ∷ row 6 (recovers (played nearly_full last_one)) (gives (record { head = 0; end = 256; digest = 1; map = 1; next = 10; keys = 6; left = 0 }))
     ∷ []
 
-abbrev case7 : List Row
+abbrev pub case7 : List Row
 case7 =
     row 7 (starts fresh (write nine (replicate 7 0x11))) (refused_by 7 ++ holds (record { head = 0; end = 13; digest = 1; map = 1; next = 1; keys = 0; left = 0 }))
     ∷ row 7 (begins fresh (write nine (replicate 7 0x11))).work (replicate 256 170)
@@ -127,7 +127,7 @@ spread =
     slot_with 255 (segment_with 1 1 1 (object nine 1 (replicate 8 0x11) ∷ [])) ++
     slot_with 255 (segment_with 2 3 2 (object nine 2 (replicate 8 0x12) ∷ tombstone nine 3 ∷ [])) ++ replicate 512 255
 
-abbrev case8 : List Row
+abbrev pub case8 : List Row
 case8 =
     row 8 (recovers spread) (gives (record { head = 1; end = 43; digest = 2; map = 3; next = 4; keys = 1; left = 0 }))
     ∷ row 8 (reads spread nine) (refused_by 8)
@@ -141,47 +141,5 @@ case8 =
     ∷ row 8 (reads (played spread (clean 3)) nine) (refused_by 8)
     ∷ []
 
--- ---- each case computed, and the table
-
-computed1 : failing case1 ≡ []
-unfolding opened
-computed1 = refl
-
-computed2 : failing case2 ≡ []
-unfolding opened
-computed2 = refl
-
-computed3 : failing case3 ≡ []
-unfolding opened
-computed3 = refl
-
-computed4 : failing case4 ≡ []
-unfolding opened
-computed4 = refl
-
-computed5 : failing case5 ≡ []
-unfolding opened
-computed5 = refl
-
-computed6 : failing case6 ≡ []
-unfolding opened
-computed6 = refl
-
-computed7 : failing case7 ≡ []
-unfolding opened
-computed7 = refl
-
-computed8 : failing case8 ≡ []
-unfolding opened
-computed8 = refl
-
 abbrev pub cases : List Row
 cases = case1 ++ (case2 ++ (case3 ++ (case4 ++ (case5 ++ (case6 ++ (case7 ++ case8))))))
-
-computed : failing cases ≡ []
-computed =
-    joined case1 _ computed1 (joined case2 _ computed2 (joined case3 _ computed3 (joined case4 _ computed4 (joined case5 _ computed5
-    (joined case6 _ computed6 (joined case7 case8 computed7 computed8))))))
-
-pub cases-hold : Hold cases
-cases-hold = rows-hold cases computed

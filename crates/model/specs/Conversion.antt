@@ -8,7 +8,6 @@ use Rattle.segment.specs.Entry.{Entry}
 use Rattle.segment.specs.Digest.{encoded_digest}
 use Rattle.segment.specs.declared.Digest.{Digest}
 use Rattle.record.specs.Answers.{taken, convert_said, said_by}
-use Rattle.record.specs.Refusals.{number_of_refusal}
 use Rattle.record.specs.declared.ConvertAnswer.{ConvertAnswer}
 use Rattle.record.specs.declared.Refusal.{Refusal}
 use Rattle.record.specs.declared.Refusal.TheVariants.{Geometry, SlotTooLong, VersionTooWide}
@@ -88,12 +87,6 @@ convert_causes n s source target_length =
     when (either (geometry_bad n s (length source)) (geometry_bad n s target_length)) Geometry
     ∷ (image_causes_by (other_edition (image_layout n s source) (views_of source s) (image_slots n s source) n) (views_of source s) n (head_of (views_of source s) n) ++
     fit_causes (target_layout n s source) (views_of source s) (image_slots n s source) s n)
-
--- These are its numbers in order, whatever the areas hold.
-convert-order :
-    (n s : ℕ) (source : List ℕ) (target_length : ℕ) →
-    map (λ c. number_of_refusal c.refusal) (convert_causes n s source target_length) ≡ 1 ∷ 16 ∷ 17 ∷ 24 ∷ 25 ∷ 28 ∷ 18 ∷ 19 ∷ 29 ∷ 30 ∷ []
-convert-order n s source target_length = refl
 
 -- The same log slots, entries, order and digest fields in the other edition, and every other byte 0.
 abbrev pub converted_image : ℕ → ℕ → List ℕ → List ℕ

@@ -1,12 +1,12 @@
 -- Cases of 02, R-12: images put into the other edition, up and down. Rows are numbered as in RequestCases.
 use Rattle.std.specs.Prelude.{ℕ, ◌≡◌, refl, List, [], ◌∷◌, ◌++◌, map, take, drop, replicate}
-use Rattle.segment.specs.Layout.{edition2, other_layout}
+use Rattle.segment.specs.Layout.{edition2}
 use Rattle.segment.specs.Entry.{Entry}
-use Rattle.model.specs.Play.{opened, first, keyed, object, tombstone, slot_with, segment_in, recovers}
-use Rattle.model.specs.Conversion.{slot_bytes, converted_slots, slot_too_long, version_too_wide, next_too_wide, slot_too_wide, convert_causes, converted_image}
+use Rattle.model.specs.Play.{first, keyed, object, tombstone, slot_with, segment_in, recovers}
+use Rattle.model.specs.Conversion.{convert_causes, converted_image}
 use Rattle.model.specs.Expected.{gives}
 use Rattle.model.specs.Areas.{a, b, c, d, small, large, tombstones, seg, bare, vacant, damaged_head}
-use Rattle.model.specs.Table.{Row, row, failing, Hold, rows-hold}
+use Rattle.model.specs.Table.{Row, row}
 
 -- a slot of edition 2 with a digest and entries, and 255 behind them
 abbrev wide : (number map next : ℕ) → List Entry → List ℕ
@@ -37,7 +37,7 @@ filling = large a 5 ∷ object b 6 (replicate 24 1) ∷ small c 7 ∷ small d 8 
 abbrev high : ℕ
 high = 4294967295
 
-abbrev rows : List Row
+abbrev pub rows : List Row
 rows =
     -- up: each log slot with its own digest's fields and its entries in order; every other byte is 0
     row 1201 (take 256 (converted_image 4 256 two)) raised
@@ -65,10 +65,3 @@ rows =
     (alone vacant ∷ alone (seg 0 1 1 []) ∷ alone (seg 1 2 1 []) ∷ alone (seg 1 3 1 []) ∷ (seg 1 1 1 [] ++ wide 2 3 1 [] ++ vacant ++ vacant) ∷ alone (damaged_head 1 1 1) ∷ alone (seg 1 1 1 (small a 1 ∷ small b 1 ∷ tombstones 15)) ∷ []))
     (16 ∷ 17 ∷ 24 ∷ 25 ∷ 28 ∷ 18 ∷ 19 ∷ [])
     ∷ []
-
-computed : failing rows ≡ []
-unfolding opened slot_bytes converted_slots slot_too_long version_too_wide next_too_wide slot_too_wide other_layout
-computed = refl
-
-pub conversion-cases-hold : Hold rows
-conversion-cases-hold = rows-hold rows computed

@@ -1,8 +1,8 @@
 -- Cases of 02, R-8: which part of the head's digest is bad, alone and with another. Rows are numbered as in RequestCases.
 use Rattle.std.specs.Prelude.{ℕ, ◌≡◌, refl, List, [], ◌∷◌, ◌++◌, map, replicate}
-use Rattle.model.specs.Play.{opened, keyed, slot_with, segment_with, recovers, refuses}
+use Rattle.model.specs.Play.{keyed, slot_with, recovers, refuses}
 use Rattle.model.specs.Areas.{small, seg, bare, vacant, damaged_head}
-use Rattle.model.specs.Table.{Row, row, failing, Hold, rows-hold}
+use Rattle.model.specs.Table.{Row, row}
 
 -- a damaged head in slot 0 with this number, map and next version, in front of slots that begin with no digest
 abbrev alone : (number map next : ℕ) → List ℕ
@@ -13,7 +13,7 @@ abbrev among : (number map next : ℕ) → List ℕ
 among number map next = damaged_head number map next ++ bare 1 ++ bare 2 ++ bare 3
 
 -- Maps: 17 has slot 4, 2 lacks the head, 15 leaves none free, and 3 has slot 1 beside the head.
-abbrev rows : List Row
+abbrev pub rows : List Row
 rows =
     -- 24, with damage behind it: slot 4, a slot far above N, no head, not even a slot, none free
     row 801 (map refuses (among 5 17 1 ∷ among 5 0x8000_0001 1 ∷ among 5 2 1 ∷ among 5 0 1 ∷ among 5 15 1 ∷ [])) (replicate 5 24)
@@ -38,10 +38,3 @@ rows =
     -- beside either the record is blank
     ∷ row 807 (recovers (among 5 2 1) ++ recovers (alone 5 3 1)) ((24 ∷ replicate 10 0) ++ (25 ∷ replicate 10 0))
     ∷ []
-
-computed : failing rows ≡ []
-unfolding opened
-computed = refl
-
-pub digest-cases-hold : Hold rows
-digest-cases-hold = rows-hold rows computed

@@ -3,12 +3,12 @@ use Rattle.std.specs.Prelude.{ℕ, ◌≡◌, refl, List, [], ◌∷◌, ◌++�
 use Rattle.segment.specs.Layout.{edition1, edition2}
 use Rattle.segment.specs.Entry.{Entry}
 use Rattle.segment.specs.declared.Key.{Key}
-use Rattle.model.specs.Operations.{Operation, write, delete, clean}
-use Rattle.model.specs.Play.{opened, first, fresh_in, keyed, object, slot_with, segment_in, recovers, refuses, start_number, starts, played, reads}
+use Rattle.model.specs.Operations.{write, delete}
+use Rattle.model.specs.Play.{first, fresh_in, keyed, object, slot_with, segment_in, recovers, refuses, start_number, starts, played, reads}
 use Rattle.model.specs.Refused.{format_causes}
 use Rattle.model.specs.Expected.{holds, gives, to_come}
 use Rattle.model.specs.Areas.{a, seg, bare, vacant}
-use Rattle.model.specs.Table.{Row, row, failing, Hold, rows-hold}
+use Rattle.model.specs.Table.{Row, row}
 
 -- a slot of edition 2 with a digest and entries, and 255 behind them
 abbrev wide : (number map next : ℕ) → List Entry → List ℕ
@@ -28,7 +28,7 @@ nine = keyed 7 9
 abbrev high : ℕ
 high = 4294967296
 
-abbrev rows : List Row
+abbrev pub rows : List Row
 rows =
     -- a fresh store: digest of kind 8 and 17 bytes
     row 1101 (map first (format_causes 1 4 256 1024 ∷ format_causes 2 4 256 1024 ∷ format_causes 0 4 256 1024 ∷ format_causes 3 4 256 1024 ∷ [])) (0 ∷ 0 ∷ 1 ∷ 1 ∷ [])
@@ -58,10 +58,3 @@ rows =
     -- the longest entry fits a fresh segment: 17 and 135 bytes
     ∷ row 1108 (starts fresh (write nine (replicate 120 0x11))) (to_come 136 ++ holds (record { head = 0; end = 17; digest = 1; map = 1; next = 1; keys = 0; left = 136 }))
     ∷ []
-
-computed : failing rows ≡ []
-unfolding opened
-computed = refl
-
-pub edition-cases-hold : Hold rows
-edition-cases-hold = rows-hold rows computed

@@ -6,9 +6,9 @@ use Rattle.record.specs.declared.Pending.{Pending}
 use Rattle.record.specs.declared.Pending.TheVariants.{Idle, Append}
 use Rattle.record.specs.declared.Record.{Record}
 use Rattle.model.specs.Causes.{first_cause}
-use Rattle.model.specs.Play.{opened, first}
-use Rattle.model.specs.Fewest.{none_below, lowest_from, fewest_slot, fewest_causes}
-use Rattle.model.specs.Table.{Row, row, failing, Hold, rows-hold}
+use Rattle.model.specs.Play.{first}
+use Rattle.model.specs.Fewest.{fewest_slot, fewest_causes}
+use Rattle.model.specs.Table.{Row, row}
 
 -- a record of 4 slots of 256 bytes with slot 1 for its head, and the present bytes of its first slots
 abbrev counted : ℕ → List ℕ → Pending → Record
@@ -32,7 +32,7 @@ counted map few p =
 abbrev tells : Record → List ℕ
 tells r = first (fewest_causes edition1 r) ∷ told_by (first_cause (fewest_causes edition1 r)) (fewest_slot r ∷ [])
 
-abbrev fewest_rows : List Row
+abbrev pub fewest_rows : List Row
 fewest_rows =
     -- slots 0 to 2 are the log's: one of them has the fewest, or two and the lower is told, or all
     row 501 (tells (counted 7 (40 ∷ 30 ∷ 19 ∷ 0 ∷ []) Idle)) (0 ∷ 2 ∷ [])
@@ -48,10 +48,3 @@ fewest_rows =
     ∷ row 505 (tells (counted 7 (40 ∷ 30 ∷ 19 ∷ 244 ∷ []) Idle)) (4 ∷ [])
     ∷ row 505 (tells (counted 5 (40 ∷ 30 ∷ 19 ∷ 0 ∷ []) Idle)) (4 ∷ [])
     ∷ []
-
-computed-fewest : failing fewest_rows ≡ []
-unfolding opened told_by none_below lowest_from
-computed-fewest = refl
-
-pub fewest-hold : Hold fewest_rows
-fewest-hold = rows-hold fewest_rows computed-fewest

@@ -7,7 +7,6 @@ pub mod Causes
 pub mod Recovery
 pub mod Index
 pub mod Operations
-pub mod Arguments
 pub mod Refused
 pub mod Promises
 pub mod Scanned

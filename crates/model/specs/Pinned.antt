@@ -2,10 +2,10 @@
 -- (must-fail) is tried on a copy of this crate alone, and computes every row that the crate has. What no edit needs stands in `rows`.
 use Rattle.std.specs.Prelude.{ℕ, ◌≡◌, refl, List, [], ◌∷◌, ◌++◌, drop, replicate}
 use Rattle.model.specs.Operations.{Operation, write, delete, clean}
-use Rattle.model.specs.Play.{opened, fresh_over, keyed, tombstone, recovers, start_number, starts, cut_after, played}
+use Rattle.model.specs.Play.{fresh_over, keyed, tombstone, recovers, start_number, starts, cut_after, played}
 use Rattle.model.specs.Expected.{holds, gives, to_come}
 use Rattle.model.specs.Areas.{a, b, c, d, e, small, large, long, seg, bare, vacant, full}
-use Rattle.model.specs.Table.{Row, row, failing, Hold, rows-hold}
+use Rattle.model.specs.Table.{Row, row}
 
 -- a head that no second object of 120 bytes fits, and an old digest in the slot of the next head
 abbrev over_old : List ℕ
@@ -18,7 +18,7 @@ after_digest o = recovers (cut_after 13 over_old o)
 abbrev old : List ℕ
 old = gives (record { head = 0; end = 144; digest = 3; map = 1; next = 2; keys = 1; left = 0 })
 
-abbrev rows : List Row
+abbrev pub rows : List Row
 rows =
     -- a new head over an old digest, for a write and for a cleaning: the old head is found until the last store
     row 23 (after_digest (write b (replicate 120 2)) ++ after_digest (clean 1)) (old ++ old)
@@ -30,10 +30,3 @@ rows =
     -- the tombstone stands in the place of the live object, the older object beside it goes, and the digest has the next version after it
     ∷ row 402 (drop 768 (played full (delete a))) (seg 4 13 16 (small b 4 ∷ tombstone c 6 ∷ tombstone a 15 ∷ large d 8 ∷ small e 9 ∷ []))
     ∷ []
-
-computed : failing rows ≡ []
-unfolding opened
-computed = refl
-
-pub pinned-hold : Hold rows
-pinned-hold = rows-hold rows computed

@@ -17,25 +17,7 @@ use Rattle.record.specs.declared.Tables.{Tables}
 use Rattle.model.specs.Causes.{first_cause}
 use Rattle.model.specs.Operations.{Operation}
 use Rattle.model.specs.Refused.{Terms, reach_causes, early_causes, step_causes}
-use Rattle.model.specs.Promises.{Genuine, Settled, Started, FormatPromise, RecoverPromise, ReadPromise, read_lengths, Part, nowhere, ValuePromise, Begun, lent_lengths, StartPromise, StepPromise, OneByte}
-
--- Two places at which the area after a step differs from the one before are one place.
-pub one_place :
-    (area area' : List ℕ) → OneByte area area' → (i j : ℕ) → (get_or area' i 0 ≡ get_or area i 0 → ⊥) → (get_or area' j 0 ≡ get_or area j 0 → ⊥) → i ≡ j
-one_place area area' (p, b, e) i j h g = stored_at i h ∙ sym (stored_at j g)
-  where
-    stored_at : (k : ℕ) → (get_or area' k 0 ≡ get_or area k 0 → ⊥) → k ≡ p
-    stored_at k n = go (ℕ_discrete k p)
-      where
-        go : Dec (k ≡ p) → k ≡ p
-        go (yes q) = q
-        go (no q) = absurd (n (ap (λ (l : List ℕ). get_or l k 0) e ∙ get_or-set_other area p k b 0 q))
-
--- Two parts that may both be a key's value are one: a copy of equal bytes elsewhere in the area is not the value.
-pub value-fixed :
-    (L : Layout) (r : Record) (area cells : List ℕ) (t : Tables) (k : Key) (p q : Part) → Genuine L area r cells →
-    ValuePromise L r area cells t k p → ValuePromise L r area cells t k q → p ≡ q
-value-fixed L r area cells t k p q g x y = x.exact g ∙ sym (y.exact g)
+use Rattle.model.specs.Promises.{Genuine, Settled, Started, FormatPromise, ReadPromise, read_lengths, Begun, lent_lengths, StartPromise, StepPromise}
 
 -- ---- two answers to the same input, wherever the whole answer is promised, are one, and so is what they leave and what they say
 
@@ -56,11 +38,6 @@ pub record RecoverSame (r q : Recovery) : Type 0 where
   pub answer : r ≡ q
   pub said : recover_said r.answer ≡ recover_said q.answer
 
-pub recover-fixed :
-    (L : Layout) (n s : ℕ) (order area cells cells' cells'' : List ℕ) (r q : Recovery) → RecoverPromise L n s order area cells cells' r →
-    RecoverPromise L n s order area cells cells'' q → RecoverSame r q
-recover-fixed L n s order area cells cells' cells'' r q x y = record { answer = x.answers ∙ sym y.answers; said = x.says ∙ sym y.says }
-
 -- Read: the record always, the answer on genuine stores, and what it says also where 4 or 22 is found before any look at the log.
 pub record ReadSame (L : Layout) (r : Record) (area cells : List ℕ) (t : Tables) (k : Key) (a b : Reading) : Type 0 where
   pub record_same : a.rec ≡ b.rec
@@ -78,12 +55,6 @@ read-fixed L r area cells t k a b x y =
       answer-same = λ g. x.exact g ∙ sym (y.exact g);
       said = λ g. x.says g ∙ sym (y.says g);
     }
-
--- A value beside a record that is unfit, and one out of reach, is no bytes at place 0.
-pub value-early :
-    (L : Layout) (r : Record) (area cells : List ℕ) (t : Tables) (k : Key) (p : Part) (c : Refusal) →
-    first_cause (reach_causes L r (read_lengths area cells) t k) ≡ some c → ValuePromise L r area cells t k p → p ≡ nowhere
-value-early L r area cells t k p c u x = x.early c u
 
 -- A start: its answer, its record and the work buffer.
 pub record StartSame (L : Layout) (t : Terms) (o : Operation) (r : Record) (area cells work work' work'' : List ℕ) (a b : Start) : Type 0 where

@@ -9,10 +9,10 @@ use Rattle.record.specs.declared.Record.{Record}
 use Rattle.record.specs.declared.Tables.{Tables}
 use Rattle.model.specs.Operations.{Operation, write, delete, clean}
 use Rattle.model.specs.Refused.{Terms, freely, reaching, read_causes, start_causes}
-use Rattle.model.specs.Play.{opened, keyed, first, lent_with, number_on, reads_within}
+use Rattle.model.specs.Play.{keyed, first, lent_with, number_on, reads_within}
 use Rattle.model.specs.Expected.{refused_by, shows}
 use Rattle.model.specs.Areas.{limit, crowded, idle, busy}
-use Rattle.model.specs.Table.{Row, row, failing, Hold, rows-hold}
+use Rattle.model.specs.Table.{Row, row}
 
 -- ---- R-1: a write over the version that was read
 
@@ -27,7 +27,7 @@ eight k = write k (replicate 8 1)
 abbrev expects : (area : List ℕ) → Operation → List ℕ → List ℕ
 expects area o vs = map (λ v. number_on (expecting v) area o) vs
 
-abbrev expected_rows : List Row
+abbrev pub expected_rows : List Row
 expected_rows =
     -- the key's own version and no other, also where a new head is needed, as here
     row 101 (expects (crowded 3 3 1) (eight (keyed 1 1)) (16 ∷ 0 ∷ 15 ∷ 17 ∷ limit ∷ [])) (0 ∷ 21 ∷ 21 ∷ 21 ∷ 21 ∷ [])
@@ -48,13 +48,6 @@ expected_rows =
     ∷ row 110 (expects (crowded 3 3 1) (delete (keyed 1 1)) (0 ∷ 16 ∷ [])) (0 ∷ 0 ∷ [])
     ∷ []
 
-computed-expected : failing expected_rows ≡ []
-unfolding opened
-computed-expected = refl
-
-pub expected-hold : Hold expected_rows
-expected-hold = rows-hold expected_rows computed-expected
-
 -- ---- R-2: the tables that a caller may reach
 
 abbrev tables : ℕ → ℕ → Tables
@@ -69,7 +62,7 @@ starting t r work =
 abbrev reading : Tables → Record → ℕ
 reading t r = first (read_causes edition1 r [] (lent_with 0) t (keyed 1 1))
 
-abbrev table_rows : List Row
+abbrev pub table_rows : List Row
 table_rows =
     -- first and last are both within reach, and an empty range reaches nothing
     row 201 (map (λ t. reading t idle) (tables 1 1 ∷ tables 0 1 ∷ tables 1 2 ∷ tables 2 1 ∷ tables 0 0 ∷ tables 2 65535 ∷ [])) (8 ∷ 8 ∷ 8 ∷ 22 ∷ 22 ∷ 22 ∷ [])
@@ -86,10 +79,3 @@ table_rows =
     -- 22 before 21
     ∷ row 208 (number_on (record { tables = tables 2 9; expected = Only (record { 0 = 1 }) }) (crowded 3 3 1) (eight (keyed 1 1)) ∷ []) (22 ∷ [])
     ∷ []
-
-computed-tables : failing table_rows ≡ []
-unfolding opened
-computed-tables = refl
-
-pub tables-hold : Hold table_rows
-tables-hold = rows-hold table_rows computed-tables

@@ -10,10 +10,10 @@ use Rattle.model.specs.Causes.{first_cause}
 use Rattle.model.specs.Operations.{write, delete}
 use Rattle.model.specs.Promises.{read_answer, part_of}
 use Rattle.model.specs.Scanned.{image_log, scan_causes, scanned_part}
-use Rattle.model.specs.Play.{opened, fresh_over, keyed, tombstone, said, first, refuses, cut_after, played, reads}
+use Rattle.model.specs.Play.{fresh_over, keyed, tombstone, said, first, refuses, cut_after, played, reads}
 use Rattle.model.specs.Expected.{refused_by, shows}
 use Rattle.model.specs.Areas.{a, b, c, small, large, seg, vacant, damaged_head, sixteen_keys}
-use Rattle.model.specs.Table.{Row, row, failing, Hold, rows-hold}
+use Rattle.model.specs.Table.{Row, row}
 
 -- what a scan with N 4 and S 256 answers for a key within these tables, and the value
 abbrev scans_within : Tables → List ℕ → Key → List ℕ
@@ -39,7 +39,7 @@ mixed =
 abbrev none : Tables
 none = record { first = 2; last = 1 }
 
-abbrev rows : List Row
+abbrev pub rows : List Row
 rows =
     -- the highest version decides, neither the first nor the last entry; a tombstone does; and the log alone is looked at
     row 901 (scans mixed a ++ scans mixed b ++ scans mixed c ++ scans mixed (keyed 1 4))
@@ -67,10 +67,3 @@ rows =
     -- an indexed read says the same
     ∷ row 906 (scans mixed a ++ scans mixed b) (reads mixed a ++ reads mixed b)
     ∷ []
-
-computed : failing rows ≡ []
-unfolding opened
-computed = refl
-
-pub scan-cases-hold : Hold rows
-scan-cases-hold = rows-hold rows computed

@@ -5,7 +5,6 @@ use Rattle.std.specs.Borrow.{Bor}
 use Rattle.segment.specs.Layout.{Layout}
 use Rattle.segment.specs.declared.Key.{Key}
 use Rattle.record.specs.Answers.{read_said, said_by}
-use Rattle.record.specs.Refusals.{number_of_refusal}
 use Rattle.record.specs.declared.Refusal.TheVariants.{Geometry, Absent, OutsideTables}
 use Rattle.record.specs.declared.ReadAnswer.{ReadAnswer}
 use Rattle.record.specs.declared.Tables.{Tables}
@@ -28,12 +27,6 @@ abbrev pub scan_causes : Layout → ℕ → ℕ → List ℕ → Tables → Key 
 scan_causes L n s area t k =
     when (geometry_bad n s (length area)) Geometry
     ∷ (image_causes L (views_of area s) n (head_of (views_of area s) n) ++ sought_causes (image_log n s area) t k)
-
--- These are its numbers in order, whatever the area holds: an image of any number of keys is read.
-scan-order :
-    (L : Layout) (n s : ℕ) (area : List ℕ) (t : Tables) (k : Key) →
-    map (λ c. number_of_refusal c.refusal) (scan_causes L n s area t k) ≡ 1 ∷ 16 ∷ 17 ∷ 24 ∷ 25 ∷ 28 ∷ 18 ∷ 19 ∷ 22 ∷ 8 ∷ []
-scan-order L n s area t k = refl
 
 -- Version and kind of the key's object in that log, or the first cause. The answer says the same in 01's numbers.
 pub record ScanPromise (L : Layout) (n s : ℕ) (area : List ℕ) (t : Tables) (k : Key) (a : ReadAnswer) : Type 0 where

@@ -8,12 +8,12 @@ use Rattle.record.specs.Switch.{switched_on}
 use Rattle.record.specs.declared.Pending.TheVariants.{Append}
 use Rattle.record.specs.declared.Record.{Record}
 use Rattle.model.specs.Operations.{Operation, write, delete, clean, plan_for, stored, finished_record}
-use Rattle.model.specs.Play.{opened, first, cause_number, keyed, object, slot_with, segment_in, recovers, record_now, start_cause, start_number, log, reads}
-use Rattle.model.specs.Conversion.{convert_causes, slot_too_long, version_too_wide, next_too_wide, slot_too_wide, slot_bytes}
+use Rattle.model.specs.Play.{first, cause_number, keyed, object, slot_with, segment_in, recovers, record_now, start_cause, start_number, log, reads}
+use Rattle.model.specs.Conversion.{convert_causes}
 use Rattle.model.specs.Switching.{switch_causes}
 use Rattle.model.specs.Expected.{gives, shows}
 use Rattle.model.specs.Areas.{a, b, small, large, long, seg, bare, vacant, busy}
-use Rattle.model.specs.Table.{Row, row, failing, Hold, rows-hold}
+use Rattle.model.specs.Table.{Row, row}
 
 -- a slot of edition 2 with a digest and entries, and 255 behind them
 abbrev wide : (number map next : ℕ) → List Entry → List ℕ
@@ -64,7 +64,7 @@ jammed digest =
 abbrev spent : ℕ
 spent = 4294967295
 
-abbrev rows : List Row
+abbrev pub rows : List Row
 rows =
     -- both editions under a head of the second: each object has the kind of its own slot
     row 1301 (recovers mixed) (gives (record { head = 1; end = 40; digest = 2; map = 3; next = 3; keys = 2; left = 0 }))
@@ -90,10 +90,3 @@ rows =
     ∷ row 1306 (start_number (jammed 3) (delete (third 1)) ∷ number (jammed 3) (delete (third 1)) ∷ number (jammed 3) (delete (keyed 4 2)) ∷ []) (0 ∷ 12 ∷ 0 ∷ [])
     ∷ row 1306 (start_number (jammed spent) (delete (third 1)) ∷ number (jammed spent) (delete (third 1)) ∷ number (jammed spent) (delete (keyed 4 2)) ∷ []) (10 ∷ 12 ∷ 10 ∷ [])
     ∷ []
-
-computed : failing rows ≡ []
-unfolding opened slot_too_long version_too_wide next_too_wide slot_too_wide slot_bytes number_of_layout
-computed = refl
-
-pub switch-cases-hold : Hold rows
-switch-cases-hold = rows-hold rows computed

@@ -2,7 +2,7 @@
 -- the rows, which of them fail, and a law turns it into the equation of every row.
 use Rattle.std.specs.Prelude.{ℕ, ◌≡◌, refl, Bool, true, false, List, [], ◌∷◌, ◌++◌, eqb}
 use Rattle.std.proofs.Common.{ap, ap₂, ◌∙◌, arith, eqb-true}
-use Rattle.segment.specs.Choice.{pick, both, both_left, both_right}
+use Rattle.segment.specs.Choice.{pick, both}
 
 -- A row has a number by which a check that fails names it.
 pub record Row : Type 0 where
@@ -28,35 +28,3 @@ failing (r ∷ rs) = pick (same r.computed r.expected) (failing rs) (r.number �
 abbrev pub Hold : List Row → Type 0
 Hold [] = Unit
 Hold (r ∷ rs) = (r.computed ≡ r.expected) × Hold rs
-
-same-equal : (xs ys : List ℕ) → same xs ys ≡ true → xs ≡ ys
-unfolding same
-same-equal [] [] e = refl
-same-equal [] (y ∷ ys) e = cc
-same-equal (x ∷ xs) [] e = cc
-same-equal (x ∷ xs) (y ∷ ys) e =
-    ap₂ ◌∷◌ (eqb-true x y (both_left (eqb x y) (same xs ys) e)) (same-equal xs ys (both_right (eqb x y) (same xs ys) e))
-
-pub rows-hold : (rs : List Row) → failing rs ≡ [] → Hold rs
-unfolding failing pick
-rows-hold [] e = tt
-rows-hold (r ∷ rs) e = go (same r.computed r.expected) refl (rows-hold rs) e
-  where
-    go : (t : Bool) → same r.computed r.expected ≡ t → (failing rs ≡ [] → Hold rs) →
-        pick t (failing rs) (r.number ∷ failing rs) ≡ [] → Hold (r ∷ rs)
-    go true s rest e = (same-equal r.computed r.expected s, rest e)
-    go false s rest e = let z : ◌≡◌ {A = ℕ} 0 1 = cc in absurd (omega arith)
-
--- a table made of two
-failing-append : (rs ss : List Row) → failing (rs ++ ss) ≡ failing rs ++ failing ss
-unfolding failing pick
-failing-append [] ss = refl
-failing-append (r ∷ rs) ss = go (same r.computed r.expected) (failing-append rs ss)
-  where
-    go : (t : Bool) → failing (rs ++ ss) ≡ failing rs ++ failing ss →
-        pick t (failing (rs ++ ss)) (r.number ∷ failing (rs ++ ss)) ≡ pick t (failing rs) (r.number ∷ failing rs) ++ failing ss
-    go true e = e
-    go false e = ap (λ (ns : List ℕ). r.number ∷ ns) e
-
-pub joined : (rs ss : List Row) → failing rs ≡ [] → failing ss ≡ [] → failing (rs ++ ss) ≡ []
-joined rs ss p q = failing-append rs ss ∙ ap₂ ◌++◌ p q

@@ -1,7 +1,8 @@
 -- What the answers of the calls are compared with.
 use Rattle.std.specs.Prelude.{◌≡◌, ℕ, ◌-◌, Bool, true, false, ◌==◌, ◌≢◌, nat_eq, nat_lt, refl}
 use Rattle.std.proofs.Common.{sym, ◌∙◌, ap, eq-eqb, ne_eqb}
-use Rattle.segment.specs.Choice.{pick, pick_true, pick-false, both, both-false-left, or_zero}
+use Rattle.segment.specs.Choice.{pick, both, or_zero}
+use Rattle.segment.proofs.Choice.{pick_true, pick-false, both-false-left}
 use Rattle.segment.specs.Layout.{edition1, object_kind}
 use Rattle.segment.specs.declared.Version.{Version}
 use Rattle.record.specs.Refusals.{number_of_refusal}

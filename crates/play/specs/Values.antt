@@ -5,7 +5,8 @@ use Rattle.std.proofs.Common.{◌∙◌, add-one, drop_of_length-le, drop-cons, 
 use mathlib.Core.List.{append-nil}
 use native.Mathlib.Omega.{arith}
 use Rattle.std.proofs.Math.Seq.{take_all, append_snoc}
-use Rattle.segment.specs.Choice.{both, both-false-left}
+use Rattle.segment.specs.Choice.{both}
+use Rattle.segment.proofs.Choice.{both-false-left}
 use Rattle.play.specs.declared.book.Value.{Value}
 
 -- the byte after one

@@ -2,7 +2,8 @@
 use Rattle.std.specs.Prelude.{ℕ, ◌≡◌, refl, List, [], ◌∷◌, ◌++◌}
 use Rattle.segment.specs.Choice.{pick, both}
 use Rattle.word.specs.Number.{bytes_of, number_of}
-use Rattle.model.specs.Table.{Row, row, same, failing, Hold, rows-hold}
+use Rattle.model.specs.Table.{Row, row, same, failing, Hold}
+use Rattle.model.proofs.Table.{rows-hold}
 use Rattle.position.specs.declared.Conversion.{Conversion}
 use Rattle.position.specs.Float.{is_count, count_in, is_held, float_of}
 use Rattle.position.specs.Convert.{position_in, conversion, from_float, to_float, answer_said}

@@ -15,7 +15,7 @@ use Rattle.std.specs.Float.Ieee.Fits.{down_pos, kept-lt, of_int-fits}
 use Rattle.std.specs.Float.Ieee.Exact.{HasValue, odd_sign}
 use Rattle.std.specs.Float.Ieee.Back.{round_whole, whole_unique}
 use Rattle.std.specs.Float.Ieee.Bits.{to_bits-of_bits}
-use Rattle.segment.specs.Choice.{both_left, both_right, both_true}
+use Rattle.segment.proofs.Choice.{both_left, both_right, both_true}
 use Rattle.position.specs.Float.{highest_count, sign_of, field_of, fraction_of, units_of_one, units_from, units_of, Holds, is_count, count_in, dropped, cut_float, float_of, is_held}
 
 -- ---- bits and values

@@ -5,7 +5,8 @@ use Rattle.std.proofs.Math.Path.{ap}
 use Rattle.std.proofs.lemmas.Bool.{false≢true, lt-leb}
 use Rattle.std.proofs.Math.Nat.{mul-mod_left, add-mul-mod_self_right, eq_of_mul-eq-mul_right}
 use Rattle.std.proofs.Math.Decide.{dec_lt}
-use Rattle.segment.specs.Choice.{both, both-false-left, both-false-right}
+use Rattle.segment.specs.Choice.{both}
+use Rattle.segment.proofs.Choice.{both-false-left, both-false-right}
 use Rattle.position.specs.Float.{highest_count, sign_of, field_of, fraction_of, units_of_one, units_from, units_of, is_count, float_of, is_held}
 use Rattle.position.specs.FloatLaws.{low-kept, high-kept}
 

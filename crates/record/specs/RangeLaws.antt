@@ -3,12 +3,13 @@ use Rattle.std.specs.Prelude.{ℕ, zero, suc, ◌+◌, ◌*◌, ◌-◌, ◌^◌
 use Rattle.std.proofs.Common.{sym, ◌∙◌, ap, ap₂, arith, lt_of_not-le, add-one, drop_of_length-le, drop-cons}
 use Rattle.std.proofs.Math.Decide.{dec_lt}
 use borrow.Author.Tests.{ltb-true, leb-true, eqb-true, eqb-false, not-true, not-false, lt-ltb, le-ltb, le-leb, lt-leb, eq-eqb, ne_eqb}
-use Rattle.segment.specs.Choice.{both, both_left, both_right, both_true, both-false-right}
+use Rattle.segment.specs.Choice.{both}
+use Rattle.segment.proofs.Choice.{both_left, both_right, both_true, both-false-right}
 use Rattle.segment.specs.Layout.{Layout, digest_size, version_limit}
 use Rattle.slot_map.specs.Bit.{named}
-use Rattle.slot_map.specs.BitLaws.{bit-above, named-true, clear-named}
+use Rattle.slot_map.proofs.BitLaws.{bit-above, named-true, clear-named}
 use Rattle.slot_map.specs.Count.{used, all_slots}
-use Rattle.slot_map.specs.CountLaws.{not-all, all_named}
+use Rattle.slot_map.proofs.CountLaws.{not-all, all_named}
 use Rattle.record.specs.Answers.{stores_left, with_pending, bare, blank}
 use Rattle.record.specs.Range.{between, slots_good, size_good, cells_good, map_good, left_good, next_good, counts_good, most_present, in_range, lengths_own, fits_lent}
 use Rattle.record.specs.Switch.{with_switch, unswitched}

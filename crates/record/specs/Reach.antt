@@ -1,7 +1,8 @@
 -- 02, R-2: the tables that a caller may reach.
 use Rattle.std.specs.Prelude.{ℕ, ◌<◌, ◌≡◌, Bool, true, leb}
 use Rattle.std.proofs.Common.{arith, le-leb}
-use Rattle.segment.specs.Choice.{both, both_true}
+use Rattle.segment.specs.Choice.{both}
+use Rattle.segment.proofs.Choice.{both_true}
 use Rattle.record.specs.declared.Tables.{Tables}
 
 -- A table lies from the first to the last of them. Where the first is above the last none does.

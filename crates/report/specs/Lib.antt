@@ -9,4 +9,3 @@ pub mod Ordered
 pub mod Gather
 pub mod LineLaws
 pub mod Recovered
-pub mod DumpLaws

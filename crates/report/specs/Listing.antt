@@ -5,7 +5,6 @@ use Rattle.segment.specs.Layout.{edition1}
 use Rattle.segment.specs.Entry.{Entry}
 use Rattle.segment.specs.declared.Key.{Key}
 use Rattle.model.specs.Log.{Placed, keys_of}
-use Rattle.model.specs.Play.{opened, keyed, object, tombstone}
 use Rattle.model.specs.Refused.{key_absent}
 
 -- by table and then key
@@ -32,18 +31,5 @@ present_keys log = ascending (present_of log (keys_of log))
 
 -- ---- at work on a log
 
-abbrev placed : Entry → Placed
+abbrev pub placed : Entry → Placed
 placed e = record { slot = 0; layout = edition1; offset = 13; entry = e }
-
--- The table comes first, the older entry of a key does not count twice, and a key whose latest entry is a tombstone is not there.
-listed : present_keys
-    (placed (object (keyed 2 1) 1 (replicate 8 0))
-    ∷ placed (object (keyed 1 9) 2 (replicate 8 0))
-    ∷ placed (object (keyed 1 8) 3 (replicate 8 0))
-    ∷ placed (object (keyed 2 0) 4 (replicate 8 0))
-    ∷ placed (tombstone (keyed 1 8) 5)
-    ∷ placed (object (keyed 2 1) 6 (replicate 8 0))
-    ∷ [])
-    ≡ keyed 1 9 ∷ keyed 2 0 ∷ keyed 2 1 ∷ []
-unfolding opened before in_order ascending present_of
-listed = refl

@@ -4,15 +4,12 @@ use Rattle.std.specs.Prelude.{ℕ, ◌≡◌, refl, Bool, true, false, List, [],
 use Rattle.segment.specs.Choice.{pick}
 use Rattle.segment.specs.Layout.{edition1}
 use Rattle.model.specs.Operations.{log_now, plan_for, stored, formatted}
-use Rattle.model.specs.Play.{opened}
-use Rattle.model.specs.Recovery.{recovered, if_none}
-use Rattle.model.specs.Table.{Row, row, failing, Hold, rows-hold}
+use Rattle.model.specs.Table.{Row, row}
 use Rattle.histories.specs.declared.Letter.{Letter}
 use Rattle.histories.specs.declared.Letter.TheVariants.{WriteA, DeleteA, CleanAll}
 use Rattle.histories.specs.declared.book.Book.{Book}
-use Rattle.histories.specs.Book.{one_if, fresh_book, finished}
-use Rattle.report.specs.Listing.{before, in_order, ascending, present_of}
-use Rattle.rig_model.specs.Verdict.{all_are, key_as, next_of, store_as, wrong_for, wrong_at, operation_at, record_at}
+use Rattle.histories.specs.Book.{fresh_book, finished}
+use Rattle.rig_model.specs.Verdict.{wrong_at, operation_at, record_at}
 
 -- an area after so many stores of a letter's operation
 abbrev cut_at : ℕ → Letter → ℕ → List ℕ → List ℕ
@@ -41,7 +38,7 @@ book2 = finished book1 DeleteA 2
 abbrev both_ways : List ℕ → Book → List ℕ
 both_ways area b = pick (wrong_at false area b) 1 0 ∷ pick (wrong_at true area b) 1 0 ∷ []
 
-abbrev rows : List Row
+abbrev pub rows : List Row
 rows =
     -- fresh, and with a write that is cut before its last store
     row 1401 (both_ways area0 fresh_book) (0 ∷ 0 ∷ [])
@@ -57,10 +54,3 @@ rows =
     ∷ row 1404 (both_ways area1 (finished fresh_book WriteA 2)) (1 ∷ 1 ∷ [])
     ∷ row 1404 (both_ways area1 (record { next = 2; first = fresh_book.first; second = fresh_book.second })) (1 ∷ 1 ∷ [])
     ∷ []
-
-computed : failing rows ≡ []
-unfolding opened recovered if_none one_if before in_order ascending present_of all_are key_as next_of store_as wrong_for wrong_at operation_at
-computed = refl
-
-pub rig-cases-hold : Hold rows
-rig-cases-hold = rows-hold rows computed

@@ -2,6 +2,5 @@
 pub mod Verdict
 pub mod Cases
 pub mod RunLaws
-pub mod CheckLaws
 pub mod PlayLaws
 pub mod LoopLaws

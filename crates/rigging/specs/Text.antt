@@ -12,7 +12,7 @@ use Rattle.histories.specs.Letters.{Word, legal}
 use Rattle.histories.specs.List.{legal_ones, histories_of, histories}
 use Rattle.histories.specs.Numbered.{word, numbered, words-numbered, shorter, histories-shorter}
 use Rattle.rig_model.specs.Verdict.{history_wrong, first_wrong, text_for, rig_text}
-use Rattle.rig_model.specs.PlayLaws.{first-append, first_found}
+use Rattle.rig_model.proofs.PlayLaws.{first-append, first_found}
 use Rattle.rigging.specs.declared.Verdict.{Verdict}
 use Rattle.rigging.specs.declared.Verdict.TheVariants.{Wrong, Nothing}
 

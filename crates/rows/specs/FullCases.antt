@@ -6,7 +6,8 @@ use Rattle.model.specs.Operations.{delete}
 use Rattle.model.specs.Play.{opened, tombstone, recovers, starts, ends, cut_after, played, reads}
 use Rattle.model.specs.Expected.{holds, gives, refused_by, to_come, done, shows}
 use Rattle.model.specs.Areas.{a, b, c, d, e, h, small, large, seg, full}
-use Rattle.model.specs.Table.{Row, row, failing, Hold, rows-hold}
+use Rattle.model.specs.Table.{Row, row, failing, Hold}
+use Rattle.model.proofs.Table.{rows-hold}
 
 -- slot 3 after a delete
 abbrev new_head : Key → List ℕ

@@ -12,7 +12,8 @@ use Rattle.model.specs.Refused.{freely, format_causes, read_causes, start_causes
 use Rattle.model.specs.Play.{opened, fresh_over, keyed, object, tombstone, slot_with, segment_with, first, recovery_numbers, recovers, refuses_with, refuses, lent_with, start_number, starts, begins, ends, stores, cut_after, played, played_all, reads, keeps}
 use Rattle.model.specs.Expected.{holds, gives, refused_by, to_come, done, shows}
 use Rattle.model.specs.Areas.{a, b, c, d, small, large, long, tombstones, limit, seg, bare, vacant, damaged_head, sixteen_keys, crowded, record_of, idle, busy}
-use Rattle.model.specs.Table.{Row, row, failing, Hold, joined, rows-hold}
+use Rattle.model.specs.Table.{Row, row, failing, Hold}
+use Rattle.model.proofs.Table.{joined, rows-hold}
 
 -- ---- what recovery refuses: a row's number is the refusal's
 

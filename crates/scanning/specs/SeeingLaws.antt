@@ -9,13 +9,16 @@ use Rattle.std.proofs.Math.Option.{Option, none, some}
 use native.Mathlib.Omega.{arith}
 use borrow.Author.Tests.{ltb-true, ltb-false, lt-ltb, eq-eqb, ne_eqb}
 use Rattle.word.specs.Number.{number_of}
-use Rattle.segment.specs.Choice.{pick, pick_true, pick-false, both, both-false-right}
+use Rattle.segment.specs.Choice.{pick, both}
+use Rattle.segment.proofs.Choice.{pick_true, pick-false, both-false-right}
 use Rattle.segment.specs.Layout.{Layout, digest_size}
-use Rattle.segment.specs.LayoutLaws.{entry-not-end}
+use Rattle.segment.proofs.LayoutLaws.{entry-not-end}
 use Rattle.segment.specs.Digest.{layout_in}
-use Rattle.segment.specs.Kinds.{size_or_zero, kind_size, no_size, has-size}
+use Rattle.segment.specs.Kinds.{size_or_zero, kind_size}
+use Rattle.segment.proofs.KindsLaws.{no_size, has-size}
 use Rattle.segment.specs.Entry.{Entry, Found, entry, end, damage, entry_at, key_of, size_of, bytes_in}
-use Rattle.segment.specs.EntryLaws.{decoded-at, kind-unknown, Reading, is-entry, is-end, is-damage, reading}
+use Rattle.segment.specs.EntryLaws.{Reading, is-entry, is-end, is-damage}
+use Rattle.segment.proofs.EntryLaws.{decoded-at, kind-unknown, reading}
 use Rattle.segment.specs.Entries.{next_of}
 use Rattle.segment.specs.declared.Key.{Key}
 use Rattle.segment.specs.declared.Next.{Next}

@@ -5,13 +5,14 @@ use Rattle.std.proofs.Math.Path.{◌≡◌, refl, sym, ap, subst}
 use Rattle.std.proofs.Math.Bool.{false, not}
 use Rattle.std.proofs.Math.Option.{Option, none, some}
 use native.Mathlib.Omega.{arith}
-use Rattle.segment.specs.Area.{stands_at, entry_place}
+use Rattle.segment.specs.Area.{stands_at}
+use Rattle.segment.proofs.AreaLaws.{entry_place}
 use Rattle.segment.specs.Choice.{pick, is_none}
 use Rattle.segment.specs.Layout.{Layout, layout_of_kind, entry_size}
-use Rattle.segment.specs.LayoutLaws.{version-positive}
+use Rattle.segment.proofs.LayoutLaws.{version-positive}
 use Rattle.segment.specs.Digest.{layout_in}
 use Rattle.segment.specs.Entry.{bytes_in, entry, entry_at, key_of, answer, is_tombstone}
-use Rattle.segment.specs.EntryLaws.{found-fits, found-readable}
+use Rattle.segment.proofs.EntryLaws.{found-fits, found-readable}
 use Rattle.segment.specs.declared.Digest.{Digest}
 use Rattle.segment.specs.declared.Key.{Key}
 use Rattle.segment.specs.declared.Read.{Read}
@@ -35,11 +36,13 @@ use Rattle.laws.specs.Latest.{latest-some}
 use Rattle.laws.specs.Forgotten.{present-live}
 use Rattle.laws.specs.LogLaws.{AllScanned, undamaged-scans, log-in}
 use Rattle.drive_log.specs.Shape.{Shape}
-use Rattle.index.specs.BuildLaws.{log-reads}
+use Rattle.index.proofs.BuildLaws.{log-reads}
 use Rattle.recovery.specs.FormatLaws.{geometry-fits}
-use Rattle.recovery.specs.LookupLaws.{stands_at_lem, placed-layout, ObjectInside}
+use Rattle.recovery.specs.LookupLaws.{ObjectInside}
+use Rattle.recovery.proofs.LookupLaws.{stands_at_lem, placed-layout}
 use Rattle.recovery.specs.Recovering.{image_for, image_of}
-use Rattle.recovery.specs.RecoverPromises.{SoundImage, sound-image, image-scans}
+use Rattle.recovery.specs.RecoverPromises.{SoundImage}
+use Rattle.recovery.proofs.RecoverPromises.{sound-image, image-scans}
 use Rattle.recovery.specs.declared.Image.{Image}
 use Rattle.scanning.specs.Seeing.{seen_of}
 use Rattle.scanning.specs.Seeking.{sought_read, sought_object, sought_as, sought_in, sought, answer_of, part_for}

@@ -5,13 +5,9 @@ pub mod Entry
 pub mod Digest
 pub mod LayoutLaws
 pub mod Packed
-pub mod DigestLaws
-pub mod ValueLaws
 pub mod EntryLaws
 pub mod Kinds
-pub mod KindTable
 pub mod AnswerLaws
-pub mod ReaderLaws
 pub mod Area
 pub mod Entries
 pub mod Written

@@ -1,9 +1,6 @@
 -- Slot maps: the bit of each slot, how many slots a map names, and the next free slot, with their laws.
 pub mod Bit
-pub mod BitLaws
 pub mod Count
-pub mod CountLaws
-pub mod Examples
 pub mod Next
 pub mod NextLaws
 pub mod Vacant

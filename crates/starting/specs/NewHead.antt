@@ -4,8 +4,8 @@ use Rattle.std.proofs.Common.{◌∙◌, ap, arith}
 use Rattle.segment.specs.Layout.{Layout, number_limit}
 use Rattle.segment.specs.declared.Version.{Version}
 use Rattle.slot_map.specs.Bit.{bit, less, with_bit, within}
-use Rattle.slot_map.specs.CountLaws.{with-less}
-use Rattle.slot_map.specs.NextLaws.{next-below, next-clear}
+use Rattle.slot_map.proofs.CountLaws.{with-less}
+use Rattle.slot_map.proofs.NextLaws.{next-below, next-clear}
 use Rattle.record.specs.RangeLaws.{Lent}
 use Rattle.record.specs.declared.Record.{Record}
 use Rattle.model.specs.Operations.{new_slot, digest_with}

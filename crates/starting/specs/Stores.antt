@@ -4,7 +4,8 @@ use Rattle.std.proofs.Common.{sym, ◌∙◌, add-one, lt-ltb, le-ltb, ltb-true,
 use Rattle.std.proofs.Math.Path.{ap}
 use Rattle.std.proofs.Math.Bool.{true, false}
 use native.Mathlib.Omega.{arith}
-use Rattle.segment.specs.Choice.{pick, pick_true, pick-false}
+use Rattle.segment.specs.Choice.{pick}
+use Rattle.segment.proofs.Choice.{pick_true, pick-false}
 use Rattle.model.specs.Operations.{commit}
 use Rattle.laws.specs.Stores.{length-commit-within, length-commit-full}
 

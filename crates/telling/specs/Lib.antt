@@ -4,9 +4,6 @@ pub mod NextLaws
 pub mod PlanLaws
 pub mod Agree
 pub mod AgreeLaws
-pub mod TestLaws
 pub mod Told
-pub mod ToldLaws
 pub mod Places
 pub mod PlaceLaws
-pub mod BareLaws

@@ -1,7 +1,8 @@
 -- A number in decimal, as text.
 use Rattle.std.specs.Prelude.{ℕ, zero, suc, ◌+◌, ◌/◌, ◌%◌, ◌^◌, ◌≤◌, ◌<◌, ◌≡◌, refl, List, [], ◌∷◌, ◌++◌, ltb, length, Bool, true, false}
 use Rattle.std.proofs.Common.{sym, ◌∙◌, ap, arith, length-append, lt-ltb, le-ltb, ltb-true, ltb-false}
-use Rattle.segment.specs.Choice.{pick, pick_true, pick-false}
+use Rattle.segment.specs.Choice.{pick}
+use Rattle.segment.proofs.Choice.{pick_true, pick-false}
 
 -- the character of a digit
 abbrev pub digit : ℕ → ℕ

@@ -5,7 +5,6 @@ use Rattle.std.specs.Prelude.{ℕ, zero, suc, ◌+◌, ◌<◌, ◌≡◌, refl,
 use Rattle.std.proofs.Common.{subst, arith}
 use Rattle.std.proofs.Math.Option.{Option, none, some}
 use Rattle.word.specs.Fnv.{fnv_step, fnv_from}
-use Rattle.word.specs.Number.{Bytes}
 use Rattle.segment.specs.Area.{object_length}
 use Rattle.segment.specs.Choice.{pick, both}
 use Rattle.segment.specs.Entry.{answer}
@@ -21,9 +20,7 @@ use Rattle.model.specs.Operations.{Operation, write, delete, clean, Typed, Typed
 use Rattle.model.specs.Play.{opened, keyed}
 use Rattle.record.specs.Reach.{all_tables}
 use Rattle.model.specs.Refused.{Lengths, Terms, freely}
-use Rattle.model.specs.Table.{failing}
-use Rattle.history.specs.Book.{reads, reads_value, tells, starts, steps, asks, recovers, Answer, saying, giving, telling, Event, called, cut, Kept, Awaited, Book, finish, one_off, take_one, feed_call, feed, book_after, book_of, scans, scans_value, converts}
-use Rattle.history.specs.Runs.{fresh_world, Run}
+use Rattle.history.specs.Book.{reads, reads_value, tells, starts, steps, asks, recovers, Answer, saying, giving, telling, Event, called, cut, Kept, Awaited, Book, finish, one_off, take_one, feed_call, feed, book_after, scans, scans_value, converts}
 use Rattle.index.specs.Build as Build
 use Rattle.index.specs.Build.{entries_from, in_log, listed}
 use Rattle.index.specs.Insert.{inserted_at, tallied, insert_next, insert_all}
@@ -36,28 +33,15 @@ use Rattle.record.specs.declared.TellAnswer.{TellAnswer}
 use Rattle.telling.specs.Told.{told_store, told_unless}
 use Rattle.telling.specs.Next.{commit_store, fits_slot, fits_left, slot_store, slot_next, pending_next}
 use Rattle.witness.specs.Answers.{cells_by}
-use Rattle.witness.specs.Compared.{expected_number, call_numbers, event_numbers, event_value, compared, events-equal}
+use Rattle.witness.specs.Compared.{expected_number, call_numbers, event_numbers, event_value, compared}
 use Rattle.witness.specs.Steps.{stored_by, stepped_unless}
-use Rattle.witness.specs.Commands.{Command, operate, advance, question, restart, power_cut, answer_by, lent_by, Played, played, play_on, play_all, commands-run, glance, glance_value, convert_into}
-
--- ---- the commands
-
-pub bytes_of : (n b : ℕ) → b < 256 → Bytes (replicate n b)
-bytes_of zero b h i = omega arith
-bytes_of (suc n) b h zero = h
-bytes_of (suc n) b h (suc i) = bytes_of n b h i
+use Rattle.witness.specs.Commands.{Command, operate, question, restart, answer_by, lent_by, played, play_on, glance, glance_value, convert_into}
 
 abbrev pub nine : Key
 nine = keyed 7 9
 
 abbrev pub ten : Key
 ten = keyed 7 10
-
-pub nine-typed : TypedKey nine
-nine-typed = (omega arith, omega arith)
-
-pub ten-typed : TypedKey ten
-ten-typed = (omega arith, omega arith)
 
 abbrev pub ones : List ℕ
 ones = replicate 8 0x11
@@ -93,34 +77,6 @@ glancing k t rest = glance all_tables k t ∷ glance_value all_tables k t ∷ re
 -- a conversion into other memory of so many bytes
 abbrev pub converting : ℕ → Command
 converting long = convert_into (replicate long 0x77)
-
-abbrev pub commands : List Command
-commands =
-    glancing nine nine-typed
-    (converting 1023
-    ∷ converting 1024
-    ∷ recovering
-    ∷ looking nine nine-typed
-    (starting (write nine ones) (nine-typed, bytes_of 8 0x11 (omega arith))
-    ∷ replicate 20 advance ++ advance
-    ∷ looking nine nine-typed
-    (question tells tt
-    ∷ starting_on (expecting 0) (write nine twos) (nine-typed, bytes_of 8 0x22 (omega arith))
-    ∷ starting_on (expecting 1) (write nine twos) (nine-typed, bytes_of 8 0x22 (omega arith))
-    ∷ question tells tt
-    ∷ replicate 7 advance ++ looking nine nine-typed
-    (glancing nine nine-typed
-    (converting 1024
-    ∷ power_cut
-    ∷ glancing nine nine-typed
-    (recovering
-    ∷ looking nine nine-typed
-    (starting_on (expecting 0) (write ten threes) (ten-typed, bytes_of 24 0x33 (omega arith))
-    ∷ replicate 36 advance ++ starting (delete nine) nine-typed
-    ∷ replicate 12 advance ++ starting (clean 1) (omega arith)
-    ∷ replicate 50 advance ++ power_cut
-    ∷ recovering
-    ∷ looking nine nine-typed (looking ten ten-typed []))))))))
 
 -- ---- the events, with their answers as numbers
 
@@ -241,9 +197,6 @@ before = replicate 1024 0xaa
 abbrev pub area₀ : List ℕ
 area₀ = formatted edition1 4 256 before
 
-abbrev pub all : Played
-all = play_all 4 256 (fresh_world area₀) commands
-
 -- What the run computes with, opened by one name.
 unfoldable pub computing : Unit {0}
 unfolding opened fnv_step fnv_from with_bit less around entries_from in_log listed Build.finished inserted_at tallied insert_next insert_all probe search_for has_key_at
@@ -252,15 +205,6 @@ unfolding opened fnv_step fnv_from with_bit less around entries_from in_log list
     commit_stores commit_store fits_slot fits_left slot_store slot_next pending_next cells_by stored_by stepped_unless told_store told_unless
     layout_of_kind other_layout slot_bytes converted_slots slot_too_long version_too_wide next_too_wide slot_too_wide convert_answer answer_by lent_by played play_on compared expected_number call_numbers event_numbers event_value
 computing = tt
-
-computed : failing (compared all.events events) ≡ []
-unfolding computing
-computed = refl
-
-pub run : Run 4 256 (fresh_world area₀) events all.world
-run =
-    subst (λ (es : List Event). Run 4 256 (fresh_world area₀) es all.world) (events-equal all.events events computed)
-    (commands-run 4 256 (fresh_world area₀) commands)
 
 -- ---- its book
 
@@ -281,28 +225,3 @@ one = some (record { version = 1; value = ones })
 
 abbrev pub two : Option Kept
 two = some (record { version = 2; value = threes })
-
-pub at_first : Page (book_of begins) none none 1 none
-unfolding booking
-at_first = record { first_key = refl; second_key = refl; next-version = refl; awaits = refl }
-
-pub written : Page (book_of (begins ++ writes)) one none 2 none
-unfolding booking
-written = record { first_key = refl; second_key = refl; next-version = refl; awaits = refl }
-
-pub half-written :
-    Page (book_of (begins ++ (writes ++ (idles ++ half)))) one none 2 (some (record { operation = write nine twos; left = 13 }))
-unfolding booking
-half-written = record { first_key = refl; second_key = refl; next-version = refl; awaits = refl }
-
-pub failed : Page (book_of (begins ++ (writes ++ (idles ++ (half ++ (meanwhile ++ fails)))))) one none 2 none
-unfolding booking
-failed = record { first_key = refl; second_key = refl; next-version = refl; awaits = refl }
-
-pub deleted : Page (book_of (begins ++ (writes ++ (idles ++ (half ++ (meanwhile ++ (fails ++ (others ++ deletes)))))))) none two 4 none
-unfolding booking
-deleted = record { first_key = refl; second_key = refl; next-version = refl; awaits = refl }
-
-pub cleaned : Page (book_of events) none two 4 none
-unfolding booking
-cleaned = record { first_key = refl; second_key = refl; next-version = refl; awaits = refl }

@@ -6,7 +6,8 @@ use Rattle.std.proofs.Math.Option.{Option, none, some}
 use Rattle.std.proofs.Math.ListN.{get_or}
 use Rattle.segment.specs.Choice.{pick, is_none}
 use Rattle.segment.specs.Layout.{Layout}
-use Rattle.segment.specs.Area.{stands_at, stands-place}
+use Rattle.segment.specs.Area.{stands_at}
+use Rattle.segment.proofs.AreaLaws.{stands-place}
 use Rattle.segment.specs.Entry.{entry, entry_at, size_of, key_of, answer, is_tombstone, kind_of}
 use Rattle.segment.specs.declared.Key.{Key}
 use Rattle.segment.specs.declared.Read.{Read}
@@ -24,10 +25,11 @@ use Rattle.laws.specs.Latest.{latest-some, latest-has, latest-none, key-none}
 use Rattle.laws.specs.LogLaws.{AllScanned}
 use Rattle.laws.specs.RecoverLaws.{recovered-case, recovered-keys}
 use Rattle.index.specs.Search.{probe, cell_has, search_for}
-use Rattle.index.specs.SearchLaws.{search-within}
-use Rattle.index.specs.Area.{area-picks}
-use Rattle.index.specs.BuildLaws.{log-in-area, log-reads}
-use Rattle.index.specs.Finds.{Picks, FreeCell, search-known, search-new}
+use Rattle.index.proofs.SearchLaws.{search-within}
+use Rattle.index.proofs.Area.{area-picks}
+use Rattle.index.proofs.BuildLaws.{log-in-area, log-reads}
+use Rattle.index.specs.Finds.{Picks, FreeCell}
+use Rattle.index.proofs.Finds.{search-known, search-new}
 use Rattle.index.specs.declared.Found.{Found}
 use Rattle.index.specs.declared.Found.TheVariants.{At, Free}
 use Rattle.writing.specs.Tests.{facts_of, presence_of, presence_at, facts_for}

@@ -4,18 +4,20 @@ use Rattle.std.proofs.Math.Path.{sym, ap}
 use Rattle.std.proofs.Common.{◌∙◌, ap₂, zero-add, arith, length-append, eq-eqb, ne_eqb}
 use Rattle.std.proofs.Math.Option.{Option, none, some}
 use Rattle.std.proofs.Math.Seq.{sets}
-use Rattle.segment.specs.Choice.{pick_true, pick-false, or_zero}
+use Rattle.segment.specs.Choice.{or_zero}
+use Rattle.segment.proofs.Choice.{pick_true, pick-false}
 use Rattle.segment.specs.Layout.{Layout, value_length, object_kind, entry_size, digest_size, table}
-use Rattle.segment.specs.LayoutLaws.{entry-not-end, known-either}
+use Rattle.segment.proofs.LayoutLaws.{entry-not-end, known-either}
 use Rattle.segment.specs.Entry.{Entry, kind_for, value_for, length_known, encoded, size_of}
-use Rattle.segment.specs.EntryLaws.{length-encoded}
+use Rattle.segment.proofs.EntryLaws.{length-encoded}
 use Rattle.segment.specs.Digest.{encoded_digest}
-use Rattle.segment.specs.DigestLaws.{length-encoded_digest}
-use Rattle.segment.specs.ValueLaws.{value-known, value-back, length-of-kind, value-tombstone, value-object, kind-back, bytes_back}
-use Rattle.segment.specs.Written.{encoded_as, entry_of, size-said, encoded-said, sets_then}
+use Rattle.segment.proofs.DigestLaws.{length-encoded_digest}
+use Rattle.segment.proofs.ValueLaws.{value-known, value-back, length-of-kind, value-tombstone, value-object, kind-back, bytes_back}
+use Rattle.segment.specs.Written.{encoded_as, entry_of}
+use Rattle.segment.proofs.Written.{size-said, encoded-said, sets_then}
 use Rattle.segment.specs.declared.Digest.{Digest}
 use Rattle.segment.specs.declared.Key.{Key}
-use Rattle.slot_map.specs.BitLaws.{bit-of-zero, within-of-le}
+use Rattle.slot_map.proofs.BitLaws.{bit-of-zero, within-of-le}
 use Rattle.record.specs.RangeLaws.{Lent}
 use Rattle.record.specs.Switch.{new_layout}
 use Rattle.record.specs.declared.Pending.TheVariants.{Append, NewHead}

@@ -6,11 +6,12 @@ use mathlib.Core.List.{List, [], ◌∷◌, ◌++◌}
 use Rattle.std.proofs.Math.Option.{Option, none, some}
 use Rattle.std.proofs.Math.Seq.{length-sets}
 use borrow.Author.Tests.{eq-eqb, eqb-false, ltb-false, not-false}
-use Rattle.segment.specs.Choice.{pick-false, both, both_left, both-false-left, or_zero, not_none}
+use Rattle.segment.specs.Choice.{both, or_zero}
+use Rattle.segment.proofs.Choice.{pick-false, both_left, both-false-left, not_none}
 use Rattle.segment.specs.Layout.{Layout, value_length, object_kind, entry_size, digest_size, number_limit, table}
-use Rattle.segment.specs.LayoutLaws.{object-kind, object-no-tombstone, tombstone-length}
+use Rattle.segment.proofs.LayoutLaws.{object-kind, object-no-tombstone, tombstone-length}
 use Rattle.segment.specs.Entry.{Entry}
-use Rattle.segment.specs.ValueLaws.{value-object, value-tombstone}
+use Rattle.segment.proofs.ValueLaws.{value-object, value-tombstone}
 use Rattle.segment.specs.Written.{entry_of}
 use Rattle.segment.specs.declared.Key.{Key}
 use Rattle.record.specs.Range.{fits_lent}

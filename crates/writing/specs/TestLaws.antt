@@ -4,11 +4,12 @@ use Rattle.std.proofs.Math.Path.{sym, ap}
 use Rattle.std.proofs.Common.{◌∙◌}
 use Rattle.std.proofs.Math.Bool.{not}
 use borrow.Author.Tests.{eq-eqb, ne_eqb, eqb-false, not-false}
-use Rattle.segment.specs.Choice.{both, both_true, both-false-left, both-false-right, is_none, or_zero}
+use Rattle.segment.specs.Choice.{both, is_none, or_zero}
+use Rattle.segment.proofs.Choice.{both_true, both-false-left, both-false-right}
 use Rattle.segment.specs.Layout.{Layout, object_kind, entry_size, digest_size, number_limit}
-use Rattle.segment.specs.LayoutLaws.{object-kind}
+use Rattle.segment.proofs.LayoutLaws.{object-kind}
 use Rattle.segment.specs.Area.{stands_at}
-use Rattle.segment.specs.Kinds.{no_kind, has-kind}
+use Rattle.segment.proofs.KindsLaws.{no_kind, has-kind}
 use Rattle.segment.specs.declared.Key.{Key}
 use Rattle.segment.specs.declared.Version.{Version}
 use Rattle.slot_map.specs.Count.{free}

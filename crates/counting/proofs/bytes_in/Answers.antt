@@ -2,8 +2,8 @@ use Prim.Native.Nat.{◌+◌, ◌≤◌, ◌<◌}
 use native.Mathlib.Omega.{arith}
 use lib.ListN.{length}
 use borrow.Author.Rules.{rules}
-use Rattle.segment.specs.LayoutLaws.{width-high}
-use Rattle.segment.specs.Entries.{next_fits}
+use Rattle.segment.proofs.LayoutLaws.{width-high}
+use Rattle.segment.proofs.EntriesLaws.{next_fits}
 use Rattle.counting.specs.CountingLaws.{bytes-start, bytes-more, bytes-at-end, bytes-at-damage, header-most}
 use Rattle.counting.proofs.bytes_in.Goals as goal
 use Rattle.counting.proofs.bytes_in.Goals.{After-object_bytes-sum, In-Entry}

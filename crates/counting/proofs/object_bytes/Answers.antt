@@ -1,6 +1,6 @@
 -- `counting::object_bytes` meets its contract.
 use mathlib.Core.Path.{sym}
-use Rattle.segment.specs.Choice.{pick_true, pick-false}
+use Rattle.segment.proofs.Choice.{pick_true, pick-false}
 use Rattle.counting.proofs.object_bytes.Goals as goal
 
 pub returns-then-header : goal.returns-then-header

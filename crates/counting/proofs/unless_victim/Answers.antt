@@ -1,6 +1,6 @@
 -- `counting::unless_victim` meets its contract.
 use mathlib.Core.Path.{sym, ◌∙◌}
-use Rattle.segment.specs.Choice.{pick_true, pick-false}
+use Rattle.segment.proofs.Choice.{pick_true, pick-false}
 use Rattle.counting.proofs.unless_victim.Goals as goal
 
 pub returns-then-has_slot : goal.returns-then-has_slot

@@ -5,7 +5,7 @@ use lib.ListN.{length}
 use Rattle.record.specs.Range.{fits_lent}
 use Rattle.record.specs.Reach.{holds_table}
 use Rattle.recovery.specs.Lookups.{looked_up, told_by}
-use Rattle.recovery.specs.LookupLaws.{reached}
+use Rattle.recovery.proofs.LookupLaws.{reached}
 use Rattle.words.specs.Words.{decoded}
 use Rattle.kurdavel.specs.CrossingLaws.{looked-lost, looked-away, looked-found, read-crossed}
 use Rattle.kurdavel.proofs.kurdavel_read.Goals as goal

@@ -8,7 +8,8 @@ use Rattle.segment.specs.Layout.{Layout, layout_of_kind, entry_size}
 use Rattle.record.specs.Range.{fits_lent}
 use Rattle.record.specs.Reach.{holds_table}
 use Rattle.recovery.specs.Lookups.{looked_up, told_by, part_by}
-use Rattle.recovery.specs.LookupLaws.{ObjectInside, object-inside, reached}
+use Rattle.recovery.specs.LookupLaws.{ObjectInside}
+use Rattle.recovery.proofs.LookupLaws.{object-inside, reached}
 use Rattle.words.specs.Words.{decoded}
 use Rattle.kurdavel.specs.CrossingLaws.{looked-lost, looked-away, looked-found, found-small, value-crossed}
 use Rattle.kurdavel.proofs.kurdavel_read_value.Goals as goal

@@ -1,6 +1,6 @@
 -- `record::new_edition` meets its contract: the second edition where the store is switched, else the record's.
 use mathlib.Core.Path.{sym}
-use Rattle.segment.specs.Choice.{pick_true, pick-false}
+use Rattle.segment.proofs.Choice.{pick_true, pick-false}
 use Rattle.record.proofs.new_edition.Goals as goal
 
 pub returns-then-rec : goal.returns-then-rec

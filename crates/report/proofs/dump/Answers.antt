@@ -1,7 +1,7 @@
 -- `report::dump` meets its contract.
 use native.Mathlib.Omega.{arith}
-use Rattle.report.specs.PutLaws.{within_same, within_none, within_more}
-use Rattle.report.specs.DumpLaws.{text-none, text-short, text-area}
+use Rattle.report.proofs.PutLaws.{within_same, within_none, within_more}
+use Rattle.report.proofs.DumpLaws.{text-none, text-short, text-area}
 use Rattle.report.proofs.dump.Goals as goal
 
 pub returns-then-out-lt-ROOM : goal.returns-then-out-lt-ROOM

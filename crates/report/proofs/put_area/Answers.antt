@@ -2,8 +2,8 @@
 use mathlib.Core.Path.{refl}
 use native.Mathlib.Omega.{arith}
 use Rattle.word.specs.Number.{Bytes}
-use Rattle.report.specs.PutLaws.{within_same, within_more}
-use Rattle.report.specs.Recovered.{text-refused, text-recovered, recovered-ready}
+use Rattle.report.proofs.PutLaws.{within_same, within_more}
+use Rattle.report.proofs.Recovered.{text-refused, text-recovered, recovered-ready}
 use Rattle.report.proofs.put_area.Goals as goal
 
 pub put_listing-requires : goal.put_listing-requires

@@ -1,6 +1,7 @@
 -- `rigging::is_found` meets its contract.
 use mathlib.Core.Path.{sym, ◌∙◌}
-use Rattle.segment.specs.Choice.{both, both-false-left}
+use Rattle.segment.specs.Choice.{both}
+use Rattle.segment.proofs.Choice.{both-false-left}
 use Rattle.histories.specs.Letters.{legal}
 use Rattle.histories.specs.Numbered.{word}
 use Rattle.rigging.proofs.is_found.Goals as goal

@@ -2,7 +2,7 @@
 use mathlib.Core.Path.{sym, ap}
 use Prim.Native.Nat.{ℕ, ◌-◌}
 use native.Mathlib.Nat.{le_trans, le_of_eq}
-use Rattle.slot_map.specs.CountLaws.{used_le, used-ones}
+use Rattle.slot_map.proofs.CountLaws.{used_le, used-ones}
 use Rattle.slot_map.proofs.free_slots.Goals as goal
 
 pub overflow_sub-result : goal.overflow_sub-result

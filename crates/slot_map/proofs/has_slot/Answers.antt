@@ -2,7 +2,7 @@
 use mathlib.Core.Path.{ap}
 use Prim.Native.Nat.{ℕ}
 use lib.Dec.{eqb}
-use Rattle.slot_map.specs.Words.{tested}
+use Rattle.slot_map.proofs.Words.{tested}
 use Rattle.slot_map.proofs.has_slot.Goals as goal
 
 pub returns : goal.returns

@@ -1,5 +1,5 @@
 -- `slot_map::leaves_free` meets its contract.
-use Rattle.slot_map.specs.Words.{leaves_free}
+use Rattle.slot_map.proofs.Words.{leaves_free}
 use Rattle.slot_map.proofs.leaves_free.Goals as goal
 
 pub returns : goal.returns

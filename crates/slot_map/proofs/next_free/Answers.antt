@@ -7,8 +7,9 @@ use lib.Count.{count_trailing_zeros, trailing_le}
 use mir.Syntax.{w32}
 use mir.Val.{Fits}
 use Rattle.slot_map.specs.Next.{next_free}
-use Rattle.slot_map.specs.Vacant.{above, next-above, next-round, next-nothing}
-use Rattle.slot_map.specs.Words.{free-map}
+use Rattle.slot_map.specs.Vacant.{above}
+use Rattle.slot_map.proofs.Vacant.{next-above, next-round, next-nothing}
+use Rattle.slot_map.proofs.Words.{free-map}
 use Rattle.slot_map.proofs.next_free.Goals as goal
 
 abbrev vacant : ℕ → ℕ → ℕ

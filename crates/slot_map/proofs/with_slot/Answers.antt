@@ -1,7 +1,7 @@
 -- `slot_map::with_slot` meets its contract.
 use mathlib.Core.Path.{ap, ◌∙◌}
 use lib.Bits.{bit_or}
-use Rattle.slot_map.specs.Words.{own-bit, or-own}
+use Rattle.slot_map.proofs.Words.{own-bit, or-own}
 use Rattle.slot_map.proofs.with_slot.Goals as goal
 
 pub returns : goal.returns

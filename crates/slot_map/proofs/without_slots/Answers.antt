@@ -1,5 +1,5 @@
 -- `slot_map::without_slots` meets its contract.
-use Rattle.slot_map.specs.Words.{and-not}
+use Rattle.slot_map.proofs.Words.{and-not}
 use Rattle.slot_map.proofs.without_slots.Goals as goal
 
 pub returns : goal.returns

@@ -10,9 +10,9 @@ use Rattle.record.specs.Range.{fits_lent}
 use Rattle.record.specs.RangeLaws.{lent}
 use Rattle.record.specs.declared.Refusal.TheVariants.{BadRecord}
 use Rattle.record.specs.declared.TellAnswer.{TellAnswer}
-use Rattle.telling.specs.BareLaws.{found-bad}
+use Rattle.telling.proofs.BareLaws.{found-bad}
 use Rattle.telling.specs.Told.{found_by}
-use Rattle.stepping.specs.OnLaws.{found-refused, found-stored, fit-own, told-found, Found, found-known}
+use Rattle.stepping.proofs.OnLaws.{found-refused, found-stored, fit-own, told-found, Found, found-known}
 use Rattle.stepping.proofs.step.Goals as goal
 use Rattle.stepping.proofs.step.Goals.{Else-not-fits_lent, In-At}
 

@@ -2,7 +2,7 @@ use mathlib.Core.Path.{refl, sym, ◌∙◌}
 use native.Mathlib.Nat.{add-zero}
 use native.Mathlib.Omega.{arith}
 use lib.ListN.{length-set}
-use Rattle.segment.specs.Written.{copy-turn, copy-end}
+use Rattle.segment.proofs.Written.{copy-turn, copy-end}
 use Rattle.words.proofs.copy_words.Goals as goal
 
 pub loop-i-init : goal.loop-i-init

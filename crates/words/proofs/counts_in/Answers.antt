@@ -1,6 +1,6 @@
 -- `words::counts_in` meets its contract.
 use native.Mathlib.Omega.{arith}
-use Rattle.words.specs.WordLaws.{copied-counts}
+use Rattle.words.proofs.WordLaws.{copied-counts}
 use Rattle.words.proofs.counts_in.Goals as goal
 
 pub returns : goal.returns

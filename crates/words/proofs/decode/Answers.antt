@@ -1,6 +1,6 @@
 -- `words::decode` meets its contract.
 use mathlib.Core.Path.{sym, ◌∙◌}
-use Rattle.words.specs.WordLaws.{record-long, decoded-record, decoded-none}
+use Rattle.words.proofs.WordLaws.{record-long, decoded-record, decoded-none}
 use Rattle.words.proofs.decode.Goals as goal
 
 pub record_in-rec-requires : goal.record_in-rec-requires

@@ -2,7 +2,7 @@
 use mathlib.Core.Path.{refl, sym, ◌∙◌}
 use borrow.Author.Tests.{le-leb, lt-leb}
 use Rattle.record.specs.RangeLaws.{ends, goes}
-use Rattle.words.specs.WordLaws.{edition-between}
+use Rattle.words.proofs.WordLaws.{edition-between}
 use Rattle.words.proofs.edition_fits.Goals as goal
 
 pub returns-then-number-ge1 : goal.returns-then-number-ge1

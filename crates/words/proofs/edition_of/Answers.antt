@@ -1,7 +1,7 @@
 -- `words::edition_of` meets its contract.
 use mathlib.Core.Path.{sym}
 use native.Mathlib.Omega.{arith}
-use Rattle.words.specs.WordLaws.{first_of, second-of}
+use Rattle.words.proofs.WordLaws.{first_of, second-of}
 use Rattle.words.proofs.edition_of.Goals as goal
 
 pub returns-in-2 : goal.returns-in-2

@@ -1,7 +1,7 @@
 -- `words::encode` meets its contract.
 use mathlib.Core.Path.{sym}
 use native.Mathlib.Omega.{arith}
-use Rattle.words.specs.WordLaws.{in_order}
+use Rattle.words.proofs.WordLaws.{in_order}
 use Rattle.words.proofs.encode.Goals as goal
 
 pub copy_words-requires : goal.copy_words-requires

@@ -1,5 +1,5 @@
 -- `words::encode_pending` meets its contract.
-use Rattle.words.specs.WordLaws.{known-pending}
+use Rattle.words.proofs.WordLaws.{known-pending}
 use Rattle.words.proofs.encode_pending.Goals as goal
 
 pub returns-in-Idle : goal.returns-in-Idle

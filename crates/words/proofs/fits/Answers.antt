@@ -8,7 +8,7 @@ use Rattle.segment.specs.Layout.{table}
 use Rattle.record.specs.Range.{counts_good}
 use Rattle.record.specs.RangeLaws.{Limits, front_good, front-limits}
 use Rattle.words.specs.Words.{counts_in, is_record}
-use Rattle.words.specs.WordLaws.{record-long, own-edition, none-unfit, front-tagged, front-unfit, lengths-unfit, counts-decide}
+use Rattle.words.proofs.WordLaws.{record-long, own-edition, none-unfit, front-tagged, front-unfit, lengths-unfit, counts-decide}
 use Rattle.words.proofs.fits.Goals as goal
 use Rattle.words.proofs.fits.Goals.{After-front_fits, Else-not-front_fits, Else-not-is_record}
 

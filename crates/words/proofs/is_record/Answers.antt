@@ -5,7 +5,7 @@ use mathlib.Core.Path.{refl, sym, ◌∙◌}
 use native.Mathlib.Omega.{arith}
 use borrow.Author.Tests.{le-leb, lt-leb}
 use Rattle.record.specs.RangeLaws.{stop, go, ends, goes}
-use Rattle.words.specs.WordLaws.{too_short, long-enough}
+use Rattle.words.proofs.WordLaws.{too_short, long-enough}
 use Rattle.words.proofs.is_record.Goals as goal
 
 pub returns-then-words-lt-WORDS : goal.returns-then-words-lt-WORDS

@@ -1,7 +1,7 @@
 -- `words::left_fits` meets its contract.
 use mathlib.Core.Path.{sym, ◌∙◌}
 use borrow.Author.Tests.{eq-eqb, ne_eqb}
-use Rattle.segment.specs.Choice.{pick_true, pick-false}
+use Rattle.segment.proofs.Choice.{pick_true, pick-false}
 use Rattle.words.specs.WordLaws.{left_fits}
 use Rattle.words.proofs.left_fits.Goals as goal
 

@@ -2,7 +2,7 @@
 use mathlib.Core.Path.{sym, ◌∙◌}
 use native.Mathlib.Omega.{arith}
 use Rattle.record.specs.RangeLaws.{ends, goes}
-use Rattle.words.specs.WordLaws.{fits-idle, fits-append, fits_head, fits-clean, fits-forget, fits-none}
+use Rattle.words.proofs.WordLaws.{fits-idle, fits-append, fits_head, fits-clean, fits-forget, fits-none}
 use Rattle.words.proofs.pending_fits.Goals as goal
 
 pub returns-then-zeros : goal.returns-then-zeros

@@ -1,7 +1,7 @@
 -- `words::pending_of` meets its contract.
 use mathlib.Core.Path.{sym}
 use native.Mathlib.Omega.{arith}
-use Rattle.words.specs.WordLaws.{of-append, of-head, of-clean, of-forget, of-rest}
+use Rattle.words.proofs.WordLaws.{of-append, of-head, of-clean, of-forget, of-rest}
 use Rattle.words.proofs.pending_of.Goals as goal
 
 pub returns-in-1 : goal.returns-in-1

@@ -1,5 +1,5 @@
 -- `words::switch_number` meets its contract.
-use Rattle.words.specs.WordLaws.{switch-on, switch-off}
+use Rattle.words.proofs.WordLaws.{switch-on, switch-off}
 use Rattle.words.proofs.switch_number.Goals as goal
 
 pub returns-then-switched : goal.returns-then-switched

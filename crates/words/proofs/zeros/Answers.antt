@@ -1,5 +1,5 @@
 -- `words::zeros` meets its contract.
-use Rattle.words.specs.WordLaws.{zeros-on, zeros-off}
+use Rattle.words.proofs.WordLaws.{zeros-on, zeros-off}
 use Rattle.words.proofs.zeros.Goals as goal
 
 pub returns-then-a-eq0 : goal.returns-then-a-eq0

@@ -4,7 +4,8 @@ use borrow.Author.Rules.{rules}
 use Rattle.segment.specs.Choice.{pick, both}
 use Rattle.segment.specs.Layout.{lookup, value_length, table, other_layout}
 use Rattle.segment.specs.Kinds.{size_or_zero}
-use Rattle.cleaning.specs.ByKind.{kind_test, kind-stands, no-entry-kind, next_past, next-at-end, next-kind-end, next-unknown}
+use Rattle.cleaning.specs.ByKind.{kind_test}
+use Rattle.cleaning.proofs.ByKind.{kind-stands, no-entry-kind, next_past, next-at-end, next-kind-end, next-unknown}
 use Rattle.cleaning.proofs.by_kind.next.Goals as goal
 
 pub returns-then-s-at : goal.returns-then-s-at

@@ -5,8 +5,8 @@ use mathlib.Core.Path.{◌≡◌, sym, ◌∙◌}
 use native.Mathlib.Omega.{arith}
 use lib.ListN.{length}
 use Rattle.segment.specs.Layout.{same_layout, table}
-use Rattle.segment.specs.LayoutLaws.{width_low}
-use Rattle.cleaning.specs.ByKind.{kind-long, next-other, next-long, next-bad-version, next-met}
+use Rattle.segment.proofs.LayoutLaws.{width_low}
+use Rattle.cleaning.proofs.ByKind.{kind-long, next-other, next-long, next-bad-version, next-met}
 use Rattle.cleaning.proofs.by_kind.next_of.Goals as goal
 use Rattle.cleaning.proofs.by_kind.next_of.Goals.{Else-not-same_edition, Else-s-at}
 

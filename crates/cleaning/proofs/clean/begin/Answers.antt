@@ -2,7 +2,7 @@
 use native.Mathlib.Omega.{arith}
 use Rattle.starting.specs.Stores.{head-most}
 use Rattle.starting.specs.NewHead.{head-ready}
-use Rattle.cleaning.specs.CleanLaws.{begun-filled}
+use Rattle.cleaning.proofs.CleanLaws.{begun-filled}
 use Rattle.cleaning.proofs.clean.begin.Goals as goal
 
 pub new_digest-requires : goal.new_digest-requires

@@ -1,7 +1,7 @@
 -- `cleaning::clean::check_kept` meets its contract.
 use native.Mathlib.Omega.{arith}
-use Rattle.segment.specs.LayoutLaws.{width-high}
-use Rattle.cleaning.specs.CleanLaws.{kept-long, kept-spent, kept-passed}
+use Rattle.segment.proofs.LayoutLaws.{width-high}
+use Rattle.cleaning.proofs.CleanLaws.{kept-long, kept-spent, kept-passed}
 use Rattle.cleaning.proofs.clean.check_kept.Goals as goal
 
 pub overflow_add-length : goal.overflow_add-length

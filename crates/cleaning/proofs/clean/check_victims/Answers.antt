@@ -2,7 +2,7 @@
 use mathlib.Core.Path.{ap}
 use mathlib.Core.Bool.{not}
 use mathlib.Core.Path.{sym, ◌∙◌}
-use Rattle.cleaning.specs.CleanLaws.{front-bad, front-idle, front-victims, front-passed}
+use Rattle.cleaning.proofs.CleanLaws.{front-bad, front-idle, front-victims, front-passed}
 use Rattle.cleaning.proofs.clean.check_victims.Goals as goal
 
 pub returns-then-not-fits_lent : goal.returns-then-not-fits_lent

@@ -4,8 +4,8 @@ use mathlib.Core.Path.{sym, ◌∙◌, ap}
 use native.Mathlib.Omega.{arith}
 use lib.ListN.{length, length-replicate}
 use Rattle.word.specs.Number.{Bytes}
-use Rattle.cleaning.specs.FilterLaws.{length-needed}
-use Rattle.cleaning.specs.CleanLaws.{front-refused, front-shape, front_fits, marked-promise}
+use Rattle.cleaning.proofs.FilterLaws.{length-needed}
+use Rattle.cleaning.proofs.CleanLaws.{front-refused, front-shape, front_fits, marked-promise}
 use Rattle.cleaning.proofs.clean.clean.Goals as goal
 
 pub mark_needed-requires : goal.mark_needed-requires

@@ -6,9 +6,9 @@ use mathlib.Core.List.{List}
 use lib.ListN.{length, length-replicate}
 use Rattle.cleaning.specs.Kept.{kept_test, kept_bytes}
 use Rattle.cleaning.specs.Chosen.{chosen_bytes}
-use Rattle.cleaning.specs.ChosenLaws.{length-choices, chosen-kept}
+use Rattle.cleaning.proofs.ChosenLaws.{length-choices, chosen-kept}
 use Rattle.cleaning.specs.Begun.{begun_with}
-use Rattle.cleaning.specs.CleanLaws.{marked_refused, marked-begun, ready, room}
+use Rattle.cleaning.proofs.CleanLaws.{marked_refused, marked-begun, ready, room}
 use Rattle.cleaning.proofs.clean.clean_marked.Goals as goal
 use Rattle.cleaning.proofs.clean.clean_marked.Goals.{After-measure-count}
 

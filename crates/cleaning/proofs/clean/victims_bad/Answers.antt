@@ -1,5 +1,5 @@
 -- `cleaning::clean::victims_bad` meets its contract.
-use Rattle.cleaning.specs.CleanLaws.{no-victims, some-victims}
+use Rattle.cleaning.proofs.CleanLaws.{no-victims, some-victims}
 use Rattle.cleaning.proofs.clean.victims_bad.Goals as goal
 
 pub returns-then-victims-eq0 : goal.returns-then-victims-eq0

@@ -2,8 +2,8 @@
 use mathlib.Core.Path.{sym, ◌∙◌, ap}
 use native.Mathlib.Omega.{arith}
 use lib.ListN.{length}
-use Rattle.segment.specs.Copied.{copied_none, copied-as}
-use Rattle.cleaning.specs.ChosenLaws.{bytes_left, bytes_chosen}
+use Rattle.segment.proofs.Copied.{copied_none, copied-as}
+use Rattle.cleaning.proofs.ChosenLaws.{bytes_left, bytes_chosen}
 use Rattle.cleaning.proofs.copy.copy_chosen.Goals as goal
 
 pub returns-then-not-is_chosen : goal.returns-then-not-is_chosen

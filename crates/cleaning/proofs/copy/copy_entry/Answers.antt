@@ -2,8 +2,8 @@
 use mathlib.Core.Path.{sym, ◌∙◌, ap}
 use native.Mathlib.Omega.{arith}
 use lib.ListN.{length}
-use Rattle.segment.specs.Copied.{copied_none, copied-as}
-use Rattle.cleaning.specs.KeptLaws.{entry-dropped, entry_kept}
+use Rattle.segment.proofs.Copied.{copied_none, copied-as}
+use Rattle.cleaning.proofs.KeptLaws.{entry-dropped, entry_kept}
 use Rattle.cleaning.proofs.copy.copy_entry.Goals as goal
 
 pub returns-then-not-is_kept : goal.returns-then-not-is_kept

@@ -2,8 +2,9 @@ use mathlib.Core.Path.{◌≡◌, sym, ap}
 use native.Mathlib.Omega.{arith}
 use lib.ListN.{length}
 use Rattle.cleaning.specs.Chosen.{chosen_below}
-use Rattle.cleaning.specs.ChosenLaws.{chosen_none, chosen_more, chosen-room}
-use Rattle.segment.specs.Copied.{copied_none, copied-as, copied-then, copied-long}
+use Rattle.cleaning.proofs.ChosenLaws.{chosen_none, chosen_more, chosen-room}
+use Rattle.segment.specs.Copied.{copied-then}
+use Rattle.segment.proofs.Copied.{copied_none, copied-as, copied-long}
 use Rattle.cleaning.proofs.copy.copy_kept.Goals as goal
 
 pub loop-i-init : goal.loop-i-init

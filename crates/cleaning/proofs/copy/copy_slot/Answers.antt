@@ -5,9 +5,10 @@ use native.Mathlib.Omega.{arith}
 use lib.ListN.{length}
 use Rattle.segment.specs.Layout.{entry_size}
 use Rattle.cleaning.specs.Chosen.{chosen_entry}
-use Rattle.cleaning.specs.EntriesLaws.{Meets, meets, meets-long, stops_end, stops-damage, tombstone-length, slot-lies, slot-long, entry-lies, place_short}
+use Rattle.cleaning.specs.EntriesLaws.{Meets}
+use Rattle.cleaning.proofs.EntriesLaws.{meets, meets-long, stops_end, stops-damage, tombstone-length, slot-lies, slot-long, entry-lies, place_short}
 use Rattle.cleaning.specs.ChosenLaws.{chosen_from, chosen-whole, chosen-stop, chosen-entry}
-use Rattle.segment.specs.Copied.{copying-start, copying-room, copying-next, copying-end}
+use Rattle.segment.proofs.Copied.{copying-start, copying-room, copying-next, copying-end}
 use Rattle.cleaning.proofs.copy.copy_slot.Goals as goal
 use Rattle.cleaning.proofs.copy.copy_slot.Goals.{After-cut-s, In-Entry}
 

@@ -3,12 +3,12 @@ use mathlib.Core.Path.{◌≡◌, sym, ◌∙◌, ap}
 use native.Mathlib.Omega.{arith}
 use lib.ListN.{length}
 use Rattle.segment.specs.Layout.{Layout}
-use Rattle.segment.specs.LayoutLaws.{same_layout_lem}
+use Rattle.segment.proofs.LayoutLaws.{same_layout_lem}
 use Rattle.segment.specs.Digest.{layout_in}
-use Rattle.segment.specs.Copied.{copied_none, copied-as}
+use Rattle.segment.proofs.Copied.{copied_none, copied-as}
 use Rattle.cleaning.specs.Chosen.{chosen_slot, chosen_part}
-use Rattle.cleaning.specs.ChosenLaws.{chosen-victim, chosen-other}
-use Rattle.cleaning.specs.EntriesLaws.{slot-lies}
+use Rattle.cleaning.proofs.ChosenLaws.{chosen-victim, chosen-other}
+use Rattle.cleaning.proofs.EntriesLaws.{slot-lies}
 use Rattle.cleaning.proofs.copy.copy_victim.Goals as goal
 use Rattle.cleaning.proofs.copy.copy_victim.Goals.{After-edition_of-edition, Then-same_edition}
 

@@ -1,9 +1,9 @@
 -- `cleaning::copy::move_entry` meets its contract.
 use mathlib.Core.Path.{sym, ◌∙◌}
 use lib.ListN.{length}
-use Rattle.segment.specs.Copied.{copied-as, copied-part, part_room}
+use Rattle.segment.proofs.Copied.{copied-as, copied-part, part_room}
 use Rattle.cleaning.specs.Kept.{moved_bytes}
-use Rattle.cleaning.specs.KeptLaws.{moved_same, moved_other, moved-room}
+use Rattle.cleaning.proofs.KeptLaws.{moved_same, moved_other, moved-room}
 use Rattle.cleaning.proofs.copy.move_entry.Goals as goal
 
 pub put_entry-requires : goal.put_entry-requires

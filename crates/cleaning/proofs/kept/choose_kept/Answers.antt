@@ -2,8 +2,8 @@
 use mathlib.Core.Path.{◌≡◌, sym, ◌∙◌}
 use native.Mathlib.Omega.{arith}
 use Rattle.cleaning.specs.Kept.{kept_test}
-use Rattle.cleaning.specs.KeptLaws.{search-kept, found_inside, length-kept, length-dropped}
-use Rattle.cleaning.specs.ChosenLaws.{entry-chosen, entry-left}
+use Rattle.cleaning.proofs.KeptLaws.{search-kept, found_inside, length-kept, length-dropped}
+use Rattle.cleaning.proofs.ChosenLaws.{entry-chosen, entry-left}
 use Rattle.cleaning.proofs.kept.choose_kept.Goals as goal
 use Rattle.cleaning.proofs.kept.choose_kept.Goals.{After-found_kept}
 

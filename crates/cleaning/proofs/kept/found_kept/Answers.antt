@@ -2,7 +2,7 @@
 use native.Mathlib.Omega.{arith}
 use borrow.Author.Rules.{scaled_Fits}
 use borrow.Author.Tests.{not-true, not-false}
-use Rattle.cleaning.specs.KeptLaws.{kept-older, kept-object, kept-tombstone, kept_free, kept_full}
+use Rattle.cleaning.proofs.KeptLaws.{kept-older, kept-object, kept-tombstone, kept_free, kept_full}
 use Rattle.cleaning.proofs.kept.found_kept.Goals as goal
 
 pub offset_bounds-cells-i : goal.offset_bounds-cells-i

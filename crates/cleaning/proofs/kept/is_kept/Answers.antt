@@ -1,5 +1,5 @@
 -- `cleaning::kept::is_kept` meets its contract.
-use Rattle.cleaning.specs.KeptLaws.{search-kept, found_inside}
+use Rattle.cleaning.proofs.KeptLaws.{search-kept, found_inside}
 use Rattle.cleaning.proofs.kept.is_kept.Goals as goal
 
 pub found_kept-requires : goal.found_kept-requires

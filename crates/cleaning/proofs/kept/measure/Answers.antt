@@ -3,9 +3,9 @@ use mathlib.Core.Path.{◌≡◌, refl, sym, ◌∙◌, ap}
 use native.Mathlib.Omega.{arith}
 use lib.ListN.{length}
 use Rattle.cleaning.specs.Kept.{kept_test, kept_below}
-use Rattle.cleaning.specs.KeptLaws.{below_none, below_length}
+use Rattle.cleaning.proofs.KeptLaws.{below_none, below_length}
 use Rattle.cleaning.specs.Chosen.{choose_below}
-use Rattle.cleaning.specs.ChosenLaws.{choice-none, choice-more, length-choices}
+use Rattle.cleaning.proofs.ChosenLaws.{choice-none, choice-more, length-choices}
 use Rattle.cleaning.proofs.kept.measure.Goals as goal
 
 pub loop-i-init : goal.loop-i-init

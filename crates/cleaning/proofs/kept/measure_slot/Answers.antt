@@ -4,11 +4,13 @@ use mathlib.Core.Path.{◌≡◌, refl, ◌∙◌, ap}
 use native.Mathlib.Omega.{arith}
 use lib.ListN.{length}
 use Rattle.segment.specs.Layout.{entry_size}
-use Rattle.segment.specs.LayoutLaws.{width-high}
+use Rattle.segment.proofs.LayoutLaws.{width-high}
 use Rattle.cleaning.specs.Kept.{kept_test, kept_entry}
-use Rattle.cleaning.specs.ChosenLaws.{choice-stop, choice-entry, choice-whole, length-choice}
-use Rattle.cleaning.specs.EntriesLaws.{Meets, meets, meets-long, stops_end, stops-damage, tombstone-length, area-short, slot-lies, slot-long, entry-lies, place_short}
-use Rattle.cleaning.specs.KeptLaws.{measured-whole, entry-short, measured-stop, measured-entry}
+use Rattle.cleaning.proofs.ChosenLaws.{choice-stop, choice-entry, choice-whole, length-choice}
+use Rattle.cleaning.specs.EntriesLaws.{Meets}
+use Rattle.cleaning.proofs.EntriesLaws.{meets, meets-long, stops_end, stops-damage, tombstone-length, area-short, slot-lies, slot-long, entry-lies, place_short}
+use Rattle.cleaning.specs.KeptLaws.{measured-stop, measured-entry}
+use Rattle.cleaning.proofs.KeptLaws.{measured-whole, entry-short}
 use Rattle.cleaning.proofs.kept.measure_slot.Goals as goal
 use Rattle.cleaning.proofs.kept.measure_slot.Goals.{After-choose_kept-total, After-cut-s, In-Entry}
 

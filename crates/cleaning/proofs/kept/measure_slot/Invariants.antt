@@ -8,7 +8,7 @@ use Rattle.model.specs.Log.{placed_in}
 use Rattle.index.specs.Build.{entries_at}
 use Rattle.cleaning.specs.Kept.{kept_test, kept_slot}
 use Rattle.cleaning.specs.Chosen.{choose_placed}
-use Rattle.cleaning.specs.KeptLaws.{kept_from}
+use Rattle.cleaning.proofs.KeptLaws.{kept_from}
 use Rattle.cleaning.proofs.kept.measure_slot.Given as goal
 
 abbrev pub invariant-loop-header : goal.invariant-loop-header

@@ -3,10 +3,10 @@ use mathlib.Core.Path.{sym, ◌∙◌, ap}
 use native.Mathlib.Omega.{arith}
 use lib.ListN.{length}
 use Rattle.segment.specs.Digest.{layout_in}
-use Rattle.cleaning.specs.EntriesLaws.{slot-lies}
+use Rattle.cleaning.proofs.EntriesLaws.{slot-lies}
 use Rattle.cleaning.specs.Kept.{kept_test}
-use Rattle.cleaning.specs.KeptLaws.{part-victim, part-other}
-use Rattle.cleaning.specs.ChosenLaws.{choice-victim, choice-passed}
+use Rattle.cleaning.proofs.KeptLaws.{part-victim, part-other}
+use Rattle.cleaning.proofs.ChosenLaws.{choice-victim, choice-passed}
 use Rattle.cleaning.proofs.kept.measure_victim.Goals as goal
 
 pub returns-then-not-is_named : goal.returns-then-not-is_named

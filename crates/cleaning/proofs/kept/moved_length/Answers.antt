@@ -1,6 +1,6 @@
 -- `cleaning::kept::moved_length` meets its contract.
 use native.Mathlib.Omega.{arith}
-use Rattle.segment.specs.LayoutLaws.{width-high}
+use Rattle.segment.proofs.LayoutLaws.{width-high}
 use Rattle.cleaning.proofs.kept.moved_length.Goals as goal
 
 pub overflow_add-result : goal.overflow_add-result

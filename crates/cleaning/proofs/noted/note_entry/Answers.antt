@@ -1,6 +1,6 @@
 -- `cleaning::noted::note_entry` meets its contract.
 use borrow.Author.Tests.{not-true, not-false}
-use Rattle.cleaning.specs.FilterLaws.{object-passed, tombstone-noted}
+use Rattle.cleaning.proofs.FilterLaws.{object-passed, tombstone-noted}
 use Rattle.cleaning.proofs.noted.note_entry.Goals as goal
 
 pub returns-then-not-header : goal.returns-then-not-header

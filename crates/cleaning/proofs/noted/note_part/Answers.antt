@@ -6,8 +6,8 @@ use lib.ListN.{length}
 use Rattle.slot_map.specs.Bit.{named}
 use native.Mathlib.Omega.{arith}
 use Rattle.segment.specs.Digest.{layout_in}
-use Rattle.cleaning.specs.EntriesLaws.{slot-lies, slot-long}
-use Rattle.cleaning.specs.Walks.{walk-named, walk-other, walk-whole}
+use Rattle.cleaning.proofs.EntriesLaws.{slot-lies, slot-long}
+use Rattle.cleaning.proofs.Walks.{walk-named, walk-other, walk-whole}
 use Rattle.cleaning.specs.Filter.{note_entry}
 use Rattle.cleaning.proofs.noted.note_part.Goals as goal
 use Rattle.cleaning.proofs.noted.note_part.Goals.{After-cut-s}

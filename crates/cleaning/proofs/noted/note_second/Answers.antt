@@ -2,10 +2,11 @@ use mathlib.Core.Path.{refl, ◌∙◌, ap}
 use native.Mathlib.Omega.{arith}
 use lib.ListN.{length}
 use Rattle.segment.specs.Layout.{edition2}
-use Rattle.cleaning.specs.Walks.{walk-stop, walk-entry}
+use Rattle.cleaning.proofs.Walks.{walk-stop, walk-entry}
 use Rattle.cleaning.specs.Filter.{note_entry}
-use Rattle.cleaning.specs.FilterLaws.{length-note}
-use Rattle.cleaning.specs.EntriesLaws.{Meets, meets, stops_end, stops-damage, tombstone-length}
+use Rattle.cleaning.proofs.FilterLaws.{length-note}
+use Rattle.cleaning.specs.EntriesLaws.{Meets}
+use Rattle.cleaning.proofs.EntriesLaws.{meets, stops_end, stops-damage, tombstone-length}
 use Rattle.cleaning.proofs.noted.note_second.Goals as goal
 use Rattle.cleaning.proofs.noted.note_second.Goals.{In-Entry}
 

@@ -1,10 +1,11 @@
 use mathlib.Core.Path.{◌≡◌, refl, ◌∙◌, ap}
 use native.Mathlib.Omega.{arith}
 use lib.ListN.{length}
-use Rattle.cleaning.specs.Walks.{walk_below, walk_none, walk_more}
+use Rattle.cleaning.specs.Walks.{walk_below}
+use Rattle.cleaning.proofs.Walks.{walk_none, walk_more}
 use Rattle.cleaning.specs.Filter.{note_entry}
-use Rattle.cleaning.specs.FilterLaws.{length-noted}
-use Rattle.cleaning.specs.EntriesLaws.{fits-again}
+use Rattle.cleaning.proofs.FilterLaws.{length-noted}
+use Rattle.cleaning.proofs.EntriesLaws.{fits-again}
 use Rattle.cleaning.proofs.noted.note_victims.Goals as goal
 
 pub loop-i-init : goal.loop-i-init

@@ -1,6 +1,6 @@
 -- `cleaning::outside::mark_key` meets its contract.
 use mathlib.Core.Path.{sym, ◌∙◌}
-use Rattle.cleaning.specs.MarksLaws.{found-marks, free-keeps, full-keeps}
+use Rattle.cleaning.proofs.MarksLaws.{found-marks, free-keeps, full-keeps}
 use Rattle.cleaning.proofs.outside.mark_key.Goals as goal
 
 pub returns-in-At : goal.returns-in-At

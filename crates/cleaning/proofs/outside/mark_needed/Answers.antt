@@ -1,6 +1,6 @@
 -- `cleaning::outside::mark_needed` meets its contract.
 use mathlib.Core.Path.{sym, ◌∙◌}
-use Rattle.cleaning.specs.FilterLaws.{no-outside, not-needed, is-needed}
+use Rattle.cleaning.proofs.FilterLaws.{no-outside, not-needed, is-needed}
 use Rattle.cleaning.proofs.outside.mark_needed.Goals as goal
 
 pub returns-then-split-eq0 : goal.returns-then-split-eq0

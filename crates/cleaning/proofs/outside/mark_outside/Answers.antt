@@ -1,11 +1,12 @@
 use mathlib.Core.Path.{◌≡◌, refl, ◌∙◌, ap}
 use native.Mathlib.Omega.{arith}
 use lib.ListN.{length}
-use Rattle.index.specs.SearchLaws.{search-empty, search-above}
-use Rattle.cleaning.specs.Walks.{walk_below, walk_none, walk_more}
+use Rattle.index.proofs.SearchLaws.{search-empty, search-above}
+use Rattle.cleaning.specs.Walks.{walk_below}
+use Rattle.cleaning.proofs.Walks.{walk_none, walk_more}
 use Rattle.cleaning.specs.Filter.{sift_entry}
-use Rattle.cleaning.specs.FilterLaws.{length-sifted, sift-nothing}
-use Rattle.cleaning.specs.EntriesLaws.{fits-again}
+use Rattle.cleaning.proofs.FilterLaws.{length-sifted, sift-nothing}
+use Rattle.cleaning.proofs.EntriesLaws.{fits-again}
 use Rattle.cleaning.proofs.outside.mark_outside.Goals as goal
 
 pub returns-then-cells-eq0 : goal.returns-then-cells-eq0

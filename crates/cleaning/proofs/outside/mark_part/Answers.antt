@@ -1,8 +1,8 @@
 -- `cleaning::outside::mark_part` meets its contract.
 use mathlib.Core.Path.{sym, ◌∙◌, ap}
 use Rattle.segment.specs.Digest.{layout_in}
-use Rattle.cleaning.specs.EntriesLaws.{slot-lies}
-use Rattle.cleaning.specs.Walks.{walk-named, walk-other}
+use Rattle.cleaning.proofs.EntriesLaws.{slot-lies}
+use Rattle.cleaning.proofs.Walks.{walk-named, walk-other}
 use Rattle.cleaning.specs.Filter.{sift_entry}
 use Rattle.cleaning.proofs.outside.mark_part.Goals as goal
 

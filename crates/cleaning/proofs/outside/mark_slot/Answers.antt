@@ -1,10 +1,11 @@
 use mathlib.Core.Path.{◌≡◌, refl, ◌∙◌, ap}
 use native.Mathlib.Omega.{arith}
 use lib.ListN.{length}
-use Rattle.cleaning.specs.Walks.{walk-stop, walk-entry, walk-whole}
+use Rattle.cleaning.proofs.Walks.{walk-stop, walk-entry, walk-whole}
 use Rattle.cleaning.specs.Filter.{sift_entry}
-use Rattle.cleaning.specs.FilterLaws.{length-sift}
-use Rattle.cleaning.specs.EntriesLaws.{Meets, meets, stops_end, stops-damage, slot-lies, slot-long}
+use Rattle.cleaning.proofs.FilterLaws.{length-sift}
+use Rattle.cleaning.specs.EntriesLaws.{Meets}
+use Rattle.cleaning.proofs.EntriesLaws.{meets, stops_end, stops-damage, slot-lies, slot-long}
 use Rattle.cleaning.proofs.outside.mark_slot.Goals as goal
 use Rattle.cleaning.proofs.outside.mark_slot.Goals.{After-cut-s, In-Entry}
 

@@ -1,6 +1,6 @@
 -- `cleaning::outside::sift_entry` meets its contract.
 use mathlib.Core.Path.{sym, ◌∙◌}
-use Rattle.cleaning.specs.FilterLaws.{sift-dead, sift-passed, sift-marks}
+use Rattle.cleaning.proofs.FilterLaws.{sift-dead, sift-passed, sift-marks}
 use Rattle.cleaning.proofs.outside.sift_entry.Goals as goal
 
 pub returns-then-header : goal.returns-then-header

@@ -3,9 +3,11 @@ use mathlib.Core.Path.{◌≡◌, refl, sym, ◌∙◌}
 use native.Mathlib.Omega.{arith}
 use lib.ListN.{length}
 use Rattle.cleaning.specs.ChosenLaws.{chosen_from, chosen-whole, chosen-stop}
-use Rattle.cleaning.specs.EntriesLaws.{Meets, meets, stops_end, stops-damage, tombstone-length, slot-lies, slot-long, place_short, area-short}
-use Rattle.cleaning.specs.Runs.{Run, stretch, run-as, run-first, run-passed, stretch-long, stretch-room, stretch-copied}
-use Rattle.segment.specs.Copied.{copied_none, copying-start, copying-room, copying-next, copying-end}
+use Rattle.cleaning.specs.EntriesLaws.{Meets}
+use Rattle.cleaning.proofs.EntriesLaws.{meets, stops_end, stops-damage, tombstone-length, slot-lies, slot-long, place_short, area-short}
+use Rattle.cleaning.specs.Runs.{Run, stretch}
+use Rattle.cleaning.proofs.RunsLaws.{run-as, run-first, run-passed, stretch-long, stretch-room, stretch-copied}
+use Rattle.segment.proofs.Copied.{copied_none, copying-start, copying-room, copying-next, copying-end}
 use Rattle.cleaning.proofs.runs.copy_runs.Goals as goal
 use Rattle.cleaning.proofs.runs.copy_runs.Goals.{After-cut-s, After-run_behind-at, In-Entry}
 

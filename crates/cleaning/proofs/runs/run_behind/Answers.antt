@@ -2,8 +2,9 @@ use Prim.Native.Nat.{◌+◌, ◌*◌, ◌<◌}
 use mathlib.Core.Path.{◌≡◌, sym, ◌∙◌}
 use native.Mathlib.Omega.{arith}
 use lib.ListN.{length}
-use Rattle.cleaning.specs.EntriesLaws.{Meets, meets, tombstone-length, slot-lies, slot-long, place_short}
-use Rattle.cleaning.specs.Runs.{run-as, run-start, run-entry}
+use Rattle.cleaning.specs.EntriesLaws.{Meets}
+use Rattle.cleaning.proofs.EntriesLaws.{meets, tombstone-length, slot-lies, slot-long, place_short}
+use Rattle.cleaning.proofs.RunsLaws.{run-as, run-start, run-entry}
 use Rattle.cleaning.proofs.runs.run_behind.Goals as goal
 use Rattle.cleaning.proofs.runs.run_behind.Goals.{After-cut-s, In-Entry}
 

@@ -2,7 +2,7 @@ use mathlib.Core.Path.{refl, sym, ◌∙◌}
 use native.Mathlib.Omega.{arith}
 use mathlib.Core.Bool.{false}
 use Rattle.laws.specs.LogLaws.{any_below}
-use Rattle.cleaning.specs.Tombstones.{any_found, any-more, any_none}
+use Rattle.cleaning.proofs.TombstonesLaws.{any_found, any-more, any_none}
 use Rattle.cleaning.proofs.tombstones.any_tombstone.Goals as goal
 
 pub loop-i-init : goal.loop-i-init

@@ -1,8 +1,9 @@
 use mathlib.Core.Path.{refl}
 use native.Mathlib.Omega.{arith}
 use Rattle.laws.specs.Members.{clash}
-use Rattle.cleaning.specs.EntriesLaws.{Meets, meets, stops_end, stops-damage}
-use Rattle.cleaning.specs.Tombstones.{tombstone-none, tombstone-found, tombstone-next}
+use Rattle.cleaning.specs.EntriesLaws.{Meets}
+use Rattle.cleaning.proofs.EntriesLaws.{meets, stops_end, stops-damage}
+use Rattle.cleaning.proofs.TombstonesLaws.{tombstone-none, tombstone-found, tombstone-next}
 use Rattle.cleaning.proofs.tombstones.holds_tombstone.Goals as goal
 use Rattle.cleaning.proofs.tombstones.holds_tombstone.Goals.{In-Entry}
 

@@ -1,8 +1,8 @@
 -- `cleaning::tombstones::slot_holds` meets its contract.
 use mathlib.Core.Path.{sym, ◌∙◌}
 use native.Mathlib.Omega.{arith}
-use Rattle.cleaning.specs.Tombstones.{victim-none, victim-goes}
-use Rattle.cleaning.specs.EntriesLaws.{slot-lies, slot-long}
+use Rattle.cleaning.proofs.TombstonesLaws.{victim-none, victim-goes}
+use Rattle.cleaning.proofs.EntriesLaws.{slot-lies, slot-long}
 use Rattle.cleaning.proofs.tombstones.slot_holds.Goals as goal
 
 pub returns-then-not-is_named : goal.returns-then-not-is_named

@@ -4,7 +4,7 @@ use native.Mathlib.Omega.{arith}
 use Rattle.model.specs.Log.{views_of}
 use Rattle.slot_map.specs.Bit.{named}
 use lib.ListN.{length}
-use Rattle.segment.specs.Copied.{copied-long}
+use Rattle.segment.proofs.Copied.{copied-long}
 use Rattle.drive_log.specs.Shape.{inside, digest-inside}
 use Rattle.converting.specs.PartLaws.{PartOf, part_of}
 use Rattle.converting.specs.SizeLaws.{part-fits}

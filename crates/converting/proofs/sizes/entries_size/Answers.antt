@@ -1,5 +1,5 @@
 use native.Mathlib.Omega.{arith}
-use Rattle.segment.specs.LayoutLaws.{width-high}
+use Rattle.segment.proofs.LayoutLaws.{width-high}
 use Rattle.drive_log.specs.Lengths.{no-size-of-end}
 use Rattle.converting.specs.PartLaws.{Sized, left-sized, left-unsized, left-past}
 use Rattle.converting.specs.SizeLaws.{count-start, count-sized, count-end, count_small}

@@ -1,6 +1,6 @@
 -- `converting::sizes::part_size` meets its contract.
 use native.Mathlib.Omega.{arith}
-use Rattle.segment.specs.LayoutLaws.{width-high}
+use Rattle.segment.proofs.LayoutLaws.{width-high}
 use Rattle.converting.specs.SizeLaws.{length-part_bytes}
 use Rattle.converting.proofs.sizes.part_size.Goals as goal
 

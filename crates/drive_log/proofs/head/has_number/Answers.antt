@@ -3,7 +3,7 @@ use mathlib.Core.Path.{refl, ◌∙◌, ap}
 use native.Mathlib.Omega.{arith}
 use Rattle.segment.specs.Digest.{digest_of}
 use Rattle.segment.specs.Layout.{Layout, edition2}
-use Rattle.segment.specs.LayoutLaws.{width-high, second-width}
+use Rattle.segment.proofs.LayoutLaws.{width-high, second-width}
 use Rattle.drive_log.specs.Heads.{number-none, number_same, number-other}
 use Rattle.drive_log.proofs.head.has_number.Goals as goal
 

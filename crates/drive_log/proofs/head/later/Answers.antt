@@ -3,7 +3,7 @@ use mathlib.Core.Path.{refl, ◌∙◌, ap}
 use native.Mathlib.Omega.{arith}
 use Rattle.segment.specs.Digest.{digest_of}
 use Rattle.segment.specs.Layout.{Layout, edition2}
-use Rattle.segment.specs.LayoutLaws.{width-high, second-width}
+use Rattle.segment.proofs.LayoutLaws.{width-high, second-width}
 use Rattle.drive_log.specs.Heads.{later-none, later_first, later-higher, later-lower}
 use Rattle.drive_log.proofs.head.later.Goals as goal
 

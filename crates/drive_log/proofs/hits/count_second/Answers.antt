@@ -3,7 +3,7 @@ use mathlib.Core.Path.{ap}
 use native.Mathlib.Omega.{arith}
 use lib.ListN.{length}
 use Rattle.segment.specs.Layout.{edition2}
-use Rattle.segment.specs.Entries.{next-end, next-damage}
+use Rattle.segment.proofs.EntriesLaws.{next-end, next-damage}
 use Rattle.drive_log.specs.Extents.{Meets, meets, rest-whole}
 use Rattle.drive_log.specs.Counts.{count_from, Counting, count_turn, count-end, count-damage}
 use Rattle.drive_log.proofs.hits.count_second.Goals as goal

@@ -2,7 +2,7 @@ use mathlib.Core.Path.{sym, ◌∙◌}
 use native.Mathlib.Omega.{arith}
 use lib.ListN.{length}
 use Rattle.segment.specs.Layout.{edition1}
-use Rattle.segment.specs.Entries.{next-end, next-damage}
+use Rattle.segment.proofs.EntriesLaws.{next-end, next-damage}
 use Rattle.drive_log.specs.Extents.{Meets, meets}
 use Rattle.drive_log.specs.Surveys.{telling-start, telling-turn, telling-end, telling-damage}
 use Rattle.drive_log.proofs.parts.survey_first.Goals as goal

@@ -3,7 +3,7 @@ use mathlib.Core.Path.{sym, ◌∙◌}
 use mathlib.Core.List.{List}
 use native.Mathlib.Omega.{arith}
 use lib.ListN.{length}
-use Rattle.segment.specs.Entries.{next-end, next-damage}
+use Rattle.segment.proofs.EntriesLaws.{next-end, next-damage}
 use Rattle.slot_map.specs.Bit.{named}
 use Rattle.model.specs.Log.{views_of, log_of, Placed}
 use Rattle.laws.specs.Versions.{count}

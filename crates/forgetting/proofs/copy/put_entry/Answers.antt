@@ -2,8 +2,8 @@
 use mathlib.Core.Path.{sym, ap}
 use native.Mathlib.Omega.{arith}
 use lib.ListN.{length}
-use Rattle.segment.specs.Copied.{copied-as}
-use Rattle.forgetting.specs.ForgotLaws.{entry-dead, entry_other}
+use Rattle.segment.proofs.Copied.{copied-as}
+use Rattle.forgetting.proofs.ForgotLaws.{entry-dead, entry_other}
 use Rattle.forgetting.proofs.copy.put_entry.Goals as goal
 
 pub put_tombstone-requires : goal.put_tombstone-requires

@@ -2,11 +2,12 @@ use Prim.Native.Nat.{◌+◌, ◌*◌, ◌<◌}
 use mathlib.Core.Path.{◌≡◌}
 use native.Mathlib.Omega.{arith}
 use lib.ListN.{length}
-use Rattle.segment.specs.Copied.{copying-start, copying-room, copying-next, copying-end}
-use Rattle.cleaning.specs.EntriesLaws.{Meets, meets, meets-long, stops_end, stops-damage, slot-lies, slot-long, entry-lies, place_short}
+use Rattle.segment.proofs.Copied.{copying-start, copying-room, copying-next, copying-end}
+use Rattle.cleaning.specs.EntriesLaws.{Meets}
+use Rattle.cleaning.proofs.EntriesLaws.{meets, meets-long, stops_end, stops-damage, slot-lies, slot-long, entry-lies, place_short}
 use Rattle.cleaning.specs.KeptLaws.{parts-stop, parts-entry}
 use Rattle.forgetting.specs.Forgot.{forgot_entry}
-use Rattle.forgetting.specs.ForgotLaws.{forgot_from, forgot-whole}
+use Rattle.forgetting.proofs.ForgotLaws.{forgot_from, forgot-whole}
 use Rattle.forgetting.proofs.copy.put_slot.Goals as goal
 use Rattle.forgetting.proofs.copy.put_slot.Goals.{After-cut-s, In-Entry}
 

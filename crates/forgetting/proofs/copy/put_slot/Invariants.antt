@@ -3,7 +3,7 @@ use Prim.Native.Nat.{◌-◌}
 use lib.ListN.{length}
 use Rattle.segment.specs.Copied.{Copying}
 use Rattle.forgetting.specs.Forgot.{forgot_slot}
-use Rattle.forgetting.specs.ForgotLaws.{forgot_from}
+use Rattle.forgetting.proofs.ForgotLaws.{forgot_from}
 use Rattle.segment.specs.Layout.{digest_size}
 use Rattle.forgetting.proofs.copy.put_slot.Given as goal
 

@@ -1,6 +1,6 @@
 -- `forgetting::copy::put_tombstone` meets its contract.
 use native.Mathlib.Omega.{arith}
-use Rattle.forgetting.specs.ForgotLaws.{dead-none, dead-put, length-dead}
+use Rattle.forgetting.proofs.ForgotLaws.{dead-none, dead-put, length-dead}
 use Rattle.forgetting.proofs.copy.put_tombstone.Goals as goal
 
 pub returns-then-not-live : goal.returns-then-not-live

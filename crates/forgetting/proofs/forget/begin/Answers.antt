@@ -3,12 +3,13 @@ use Prim.Native.Nat.{◌+◌, ◌≤◌}
 use native.Mathlib.Omega.{arith}
 use lib.ListN.{length}
 use Rattle.segment.specs.Layout.{digest_size}
-use Rattle.segment.specs.LayoutLaws.{limit-high}
+use Rattle.segment.proofs.LayoutLaws.{limit-high}
 use Rattle.record.specs.Switch.{new_layout}
 use Rattle.starting.specs.Stores.{head-most}
 use Rattle.starting.specs.NewHead.{head-ready}
 use Rattle.forgetting.specs.Forgot.{forgot_slot}
-use Rattle.forgetting.specs.DeleteLaws.{fits-room, victim-fits, victim-below, victim-size, victim-within, forgot-filled}
+use Rattle.forgetting.specs.DeleteLaws.{forgot-filled}
+use Rattle.forgetting.proofs.DeleteLaws.{fits-room, victim-fits, victim-below, victim-size, victim-within}
 use Rattle.forgetting.proofs.forget.begin.Goals as goal
 use Rattle.forgetting.proofs.forget.begin.Goals.{Start}
 

@@ -1,7 +1,7 @@
 -- `forgetting::forget::forget` meets its contract.
 use mathlib.Core.Path.{sym, ◌∙◌}
-use Rattle.index.specs.SearchLaws.{search-inside}
-use Rattle.forgetting.specs.DeleteLaws.{forgot-at, forgot-free, forgot-full}
+use Rattle.index.proofs.SearchLaws.{search-inside}
+use Rattle.forgetting.proofs.DeleteLaws.{forgot-at, forgot-free, forgot-full}
 use Rattle.forgetting.proofs.forget.forget.Goals as goal
 
 pub forget_at-requires : goal.forget_at-requires

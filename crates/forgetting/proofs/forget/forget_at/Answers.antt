@@ -3,8 +3,8 @@ use Prim.Native.Nat.{ℕ}
 use mathlib.Core.Path.{sym, ◌∙◌, ap}
 use native.Mathlib.Omega.{arith}
 use lib.ListN.{length, length-replicate}
-use Rattle.forgetting.specs.Sifted.{length-left}
-use Rattle.forgetting.specs.DeleteLaws.{in-log-below, victim-fits, victim-ready, victim-begun, forgot-outside}
+use Rattle.forgetting.proofs.Sifted.{length-left}
+use Rattle.forgetting.proofs.DeleteLaws.{in-log-below, victim-fits, victim-ready, victim-begun, forgot-outside}
 use Rattle.forgetting.proofs.forget.forget_at.Goals as goal
 
 pub returns-then-not-in_log : goal.returns-then-not-in_log

@@ -2,9 +2,9 @@
 use mathlib.Core.Path.{◌≡◌, sym, ◌∙◌, ap}
 use Rattle.segment.specs.Digest.{layout_in}
 use Rattle.cleaning.specs.Entries.{slot_layout}
-use Rattle.cleaning.specs.EntriesLaws.{slot-lies}
+use Rattle.cleaning.proofs.EntriesLaws.{slot-lies}
 use Rattle.writing.specs.TestLaws.{full-fits, full-number}
-use Rattle.forgetting.specs.DeleteLaws.{victim-fits, victim-below, live-begun, live-refused}
+use Rattle.forgetting.proofs.DeleteLaws.{victim-fits, victim-below, live-begun, live-refused}
 use Rattle.forgetting.proofs.forget.forget_live.Goals as goal
 use Rattle.forgetting.proofs.forget.forget_live.Goals.{After-edition_of-edition}
 

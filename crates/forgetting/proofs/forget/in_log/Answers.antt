@@ -1,5 +1,5 @@
 -- `forgetting::forget::in_log` meets its contract.
-use Rattle.forgetting.specs.DeleteLaws.{in-log-above, in-log-named}
+use Rattle.forgetting.proofs.DeleteLaws.{in-log-above, in-log-named}
 use Rattle.forgetting.proofs.forget.in_log.Goals as goal
 
 pub returns-then-rec-slot : goal.returns-then-rec-slot

@@ -1,8 +1,8 @@
 -- `forgetting::room::fits_segment` meets its contract.
 use mathlib.Core.Path.{sym, ◌∙◌}
 use native.Mathlib.Omega.{arith}
-use Rattle.segment.specs.LayoutLaws.{width-high}
-use Rattle.forgetting.specs.ForgotLaws.{forgot-fits, fits-measured}
+use Rattle.segment.proofs.LayoutLaws.{width-high}
+use Rattle.forgetting.proofs.ForgotLaws.{forgot-fits, fits-measured}
 use Rattle.forgetting.proofs.room.fits_segment.Goals as goal
 
 pub returns-then-same_edition : goal.returns-then-same_edition

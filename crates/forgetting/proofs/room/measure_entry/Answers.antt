@@ -1,8 +1,8 @@
 -- `forgetting::room::measure_entry` meets its contract.
 use mathlib.Core.Path.{sym, ◌∙◌, ap}
 use lib.ListN.{length}
-use Rattle.cleaning.specs.KeptLaws.{length-kept, length-dropped}
-use Rattle.forgetting.specs.ForgotLaws.{entry-dead, entry_other}
+use Rattle.cleaning.proofs.KeptLaws.{length-kept, length-dropped}
+use Rattle.forgetting.proofs.ForgotLaws.{entry-dead, entry_other}
 use Rattle.forgetting.proofs.room.measure_entry.Goals as goal
 
 pub returns-then-place-live : goal.returns-then-place-live

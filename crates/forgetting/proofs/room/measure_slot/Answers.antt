@@ -3,11 +3,12 @@ use mathlib.Core.Path.{◌≡◌, refl}
 use native.Mathlib.Omega.{arith}
 use lib.ListN.{length}
 use Rattle.segment.specs.Layout.{entry_size}
-use Rattle.segment.specs.LayoutLaws.{width-high}
-use Rattle.cleaning.specs.EntriesLaws.{Meets, meets, meets-long, stops_end, stops-damage, area-short, slot-lies, slot-long, entry-lies, place_short}
+use Rattle.segment.proofs.LayoutLaws.{width-high}
+use Rattle.cleaning.specs.EntriesLaws.{Meets}
+use Rattle.cleaning.proofs.EntriesLaws.{meets, meets-long, stops_end, stops-damage, area-short, slot-lies, slot-long, entry-lies, place_short}
 use Rattle.cleaning.specs.KeptLaws.{measured-stop, measured-entry}
 use Rattle.forgetting.specs.Forgot.{forgot_entry}
-use Rattle.forgetting.specs.ForgotLaws.{forgot-measured, forgot-long}
+use Rattle.forgetting.proofs.ForgotLaws.{forgot-measured, forgot-long}
 use Rattle.forgetting.proofs.room.measure_slot.Goals as goal
 use Rattle.forgetting.proofs.room.measure_slot.Goals.{After-cut-s, After-measure_entry-total, In-Entry}
 

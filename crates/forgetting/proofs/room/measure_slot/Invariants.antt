@@ -4,7 +4,7 @@ use Prim.Native.Nat.{◌+◌, ◌*◌, ◌-◌, ◌≤◌}
 use mathlib.Core.Path.{◌≡◌}
 use lib.ListN.{length}
 use Rattle.forgetting.specs.Forgot.{forgot_slot}
-use Rattle.forgetting.specs.ForgotLaws.{forgot_from}
+use Rattle.forgetting.proofs.ForgotLaws.{forgot_from}
 use Rattle.forgetting.proofs.room.measure_slot.Given as goal
 
 abbrev pub invariant-loop-header : goal.invariant-loop-header

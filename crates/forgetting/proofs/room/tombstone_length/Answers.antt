@@ -1,6 +1,6 @@
 -- `forgetting::room::tombstone_length` meets its contract.
 use mathlib.Core.Path.{◌∙◌}
-use Rattle.forgetting.specs.ForgotLaws.{length_none, length-dead}
+use Rattle.forgetting.proofs.ForgotLaws.{length_none, length-dead}
 use Rattle.forgetting.proofs.room.tombstone_length.Goals as goal
 
 pub returns-then-not-live : goal.returns-then-not-live

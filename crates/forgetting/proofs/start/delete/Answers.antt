@@ -3,12 +3,12 @@ use mathlib.Core.Path.{◌≡◌, refl, sym, ◌∙◌}
 use native.Mathlib.Omega.{arith}
 use Rattle.word.specs.Number.{Bytes}
 use Rattle.segment.specs.Layout.{entry_size}
-use Rattle.segment.specs.LayoutLaws.{tombstone-length, width-high}
+use Rattle.segment.proofs.LayoutLaws.{tombstone-length, width-high}
 use Rattle.laws.specs.OperationsKept.{edition-roomy}
 use Rattle.model.specs.Operations.{no_room}
 use Rattle.starting.specs.declared.Check.{Check}
 use Rattle.writing.specs.StartLaws.{presents, delete-refused, delete-spent, delete-ready, delete-number, delete-laid, laid-started}
-use Rattle.forgetting.specs.DeleteLaws.{delete-lent, forget-ready, forget-promise}
+use Rattle.forgetting.proofs.DeleteLaws.{delete-lent, forget-ready, forget-promise}
 use Rattle.forgetting.proofs.start.delete.Goals as goal
 use Rattle.forgetting.proofs.start.delete.Goals.{After-no_room, In-Passed}
 

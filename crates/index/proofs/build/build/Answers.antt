@@ -1,6 +1,6 @@
 -- `index::build::build` meets its contract.
 use mathlib.Core.Path.{◌∙◌}
-use Rattle.index.specs.Turns.{built-keys, built-many}
+use Rattle.index.proofs.Turns.{built-keys, built-many}
 use Rattle.index.proofs.build.build.Goals as goal
 
 pub returns-in-Keys : goal.returns-in-Keys

@@ -2,7 +2,7 @@ use mathlib.Core.Path.{refl}
 use native.Mathlib.Omega.{arith}
 use lib.ListN.{length-set}
 use borrow.Author.Rules.{rules}
-use Rattle.index.specs.Turns.{clear-turn, clear-end}
+use Rattle.index.proofs.Turns.{clear-turn, clear-end}
 use Rattle.index.proofs.build.clear.Goals as goal
 
 pub loop-i-init : goal.loop-i-init

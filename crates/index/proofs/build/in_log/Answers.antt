@@ -1,6 +1,6 @@
 -- `index::build::in_log` meets its contract.
 use native.Mathlib.Omega.{arith}
-use Rattle.index.specs.Turns.{not-in-log-high, not-in-log, in-log-by-room, slot_small}
+use Rattle.index.proofs.Turns.{not-in-log-high, not-in-log, in-log-by-room, slot_small}
 use Rattle.index.proofs.build.in_log.Goals as goal
 
 pub returns-then-slot-ge32 : goal.returns-then-slot-ge32

@@ -8,9 +8,10 @@ use Rattle.segment.specs.declared.Version.{Version}
 use Rattle.index.specs.declared.Found.{Found}
 use Rattle.index.specs.declared.Inserted.{Inserted}
 use Rattle.index.specs.Search.{search_for}
-use Rattle.index.specs.SearchLaws.{Inside, search-inside, search-free}
-use Rattle.index.specs.InsertLaws.{insert-newer, insert-older, insert-new, insert-full}
-use Rattle.index.specs.Turns.{one-new, one-over, one-newer, one-older, one-full}
+use Rattle.index.specs.SearchLaws.{Inside}
+use Rattle.index.proofs.SearchLaws.{search-inside, search-free}
+use Rattle.index.proofs.InsertLaws.{insert-newer, insert-older, insert-new, insert-full}
+use Rattle.index.proofs.Turns.{one-new, one-over, one-newer, one-older, one-full}
 use borrow.Author.Rules.{scaled_Fits}
 use Rattle.index.proofs.build.index_entry.Goals as goal
 use Rattle.index.proofs.build.index_entry.Goals.{After-search, In-At, In-Free}

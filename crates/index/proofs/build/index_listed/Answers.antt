@@ -3,7 +3,7 @@ use Prim.Native.Nat.{◌+◌, ◌*◌, ◌≤◌}
 use mathlib.Core.Path.{sym, ◌∙◌, ap}
 use lib.ListN.{length}
 use Rattle.segment.specs.Digest.{layout_in}
-use Rattle.index.specs.Turns.{listed-out, listed-slot, in-log-room, slot_small}
+use Rattle.index.proofs.Turns.{listed-out, listed-slot, in-log-room, slot_small}
 use Rattle.index.proofs.build.index_listed.Goals as goal
 use Rattle.index.proofs.build.index_listed.Goals.{Else-not-in_log}
 

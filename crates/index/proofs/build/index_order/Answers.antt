@@ -2,7 +2,7 @@ use mathlib.Core.Path.{◌≡◌, refl, ◌∙◌}
 use native.Mathlib.Omega.{arith}
 use lib.ListN.{length}
 use borrow.Author.Rules.{rules}
-use Rattle.index.specs.Turns.{order-end, order-over, order-next, order-few}
+use Rattle.index.proofs.Turns.{order-end, order-over, order-next, order-few}
 use Rattle.index.proofs.build.index_order.Goals as goal
 use Rattle.index.proofs.build.index_order.Goals.{After-index_listed}
 

@@ -3,8 +3,8 @@ use mathlib.Core.Path.{◌≡◌, refl, ◌∙◌}
 use native.Mathlib.Omega.{arith}
 use lib.ListN.{length}
 use borrow.Author.Rules.{rules}
-use Rattle.segment.specs.Entries.{next-tombstone}
-use Rattle.index.specs.Turns.{slot-start, slot-end, slot-damage, slot-fits, slot-over, slot_next, slot-few}
+use Rattle.segment.proofs.EntriesLaws.{next-tombstone}
+use Rattle.index.proofs.Turns.{slot-start, slot-end, slot-damage, slot-fits, slot-over, slot_next, slot-few}
 use Rattle.index.proofs.build.index_slot.Goals as goal
 use Rattle.index.proofs.build.index_slot.Goals.{After-index_entry, In-Entry}
 

@@ -1,6 +1,6 @@
 -- `index::put::version_there` meets its contract.
 use mathlib.Core.Path.{◌∙◌}
-use Rattle.index.specs.SearchLaws.{version-none, version-whole}
+use Rattle.index.proofs.SearchLaws.{version-none, version-whole}
 use Rattle.index.proofs.put.version_there.Goals as goal
 
 pub returns-then-area-place : goal.returns-then-area-place

@@ -1,6 +1,6 @@
 -- `index::search::cell_has` meets its contract.
 use Rattle.segment.specs.Layout.{table}
-use Rattle.index.specs.SearchLaws.{key-no-room, key-other-table, key-by-key}
+use Rattle.index.proofs.SearchLaws.{key-no-room, key-other-table, key-by-key}
 use Rattle.index.proofs.search.cell_has.Goals as goal
 
 pub returns-then-area-place : goal.returns-then-area-place

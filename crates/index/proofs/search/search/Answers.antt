@@ -1,6 +1,6 @@
 use mathlib.Core.Path.{refl}
 use native.Mathlib.Omega.{arith}
-use Rattle.index.specs.SearchLaws.{search-empty, search-above, first_below, search-runs, runs-over, run_at, run-free, run-next}
+use Rattle.index.proofs.SearchLaws.{search-empty, search-above, first_below, search-runs, runs-over, run_at, run-free, run-next}
 use Rattle.index.proofs.search.search.Goals as goal
 
 pub returns-then-length-eq0 : goal.returns-then-length-eq0

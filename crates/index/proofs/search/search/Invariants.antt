@@ -3,7 +3,7 @@ use Prim.Native.Nat.{◌+◌, ◌-◌, ◌≤◌}
 use mathlib.Core.Path.{◌≡◌}
 use lib.ListN.{length}
 use Rattle.index.specs.Search.{probe, cell_has, search_for}
-use Rattle.index.specs.Probe.{or_else}
+use Rattle.index.proofs.Probe.{or_else}
 use Rattle.index.proofs.search.search.Given as goal
 
 abbrev pub invariant-loop-end : goal.invariant-loop-end

@@ -1,7 +1,7 @@
 use mathlib.Core.Path.{refl, sym, ◌∙◌}
 use native.Mathlib.Omega.{arith}
 use Rattle.index.specs.Search.{cell_has}
-use Rattle.index.specs.SearchLaws.{turn-full, turn-free, turn_at, turn-next}
+use Rattle.index.proofs.SearchLaws.{turn-full, turn-free, turn_at, turn-next}
 use Rattle.index.proofs.search.search_up.Goals as goal
 
 pub loop-at-init : goal.loop-at-init

@@ -4,7 +4,7 @@ use native.Mathlib.Omega.{arith}
 use borrow.Author.Rules.{scaled_Fits}
 use Rattle.index.specs.declared.Found.{Found}
 use Rattle.index.specs.Search.{search_for}
-use Rattle.index.specs.SearchLaws.{search-inside}
+use Rattle.index.proofs.SearchLaws.{search-inside}
 use Rattle.joining.specs.NotesLaws.{slot-low, key-own, key-older, key-free, key-full}
 use Rattle.joining.proofs.notes.note_key.Goals as goal
 use Rattle.joining.proofs.notes.note_key.Goals.{In-At}

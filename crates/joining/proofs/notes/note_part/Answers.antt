@@ -3,7 +3,7 @@ use Prim.Native.Nat.{◌<◌}
 use mathlib.Core.Path.{sym, ◌∙◌, ap}
 use native.Mathlib.Omega.{arith}
 use Rattle.segment.specs.Digest.{layout_in}
-use Rattle.cleaning.specs.EntriesLaws.{slot-lies}
+use Rattle.cleaning.proofs.EntriesLaws.{slot-lies}
 use Rattle.joining.specs.NotesLaws.{part-noted, part-keeps, summed-own, counted_skip, counted-more, tombstones-skip, tombstones-more}
 use Rattle.joining.proofs.notes.note_part.Goals as goal
 

@@ -4,9 +4,10 @@ use mathlib.Core.Path.{◌≡◌, sym, ◌∙◌}
 use native.Mathlib.Nat.{mul-le-mul}
 use native.Mathlib.Omega.{arith}
 use lib.ListN.{length}
-use Rattle.segment.specs.LayoutLaws.{width-high}
+use Rattle.segment.proofs.LayoutLaws.{width-high}
 use Rattle.index.specs.Search.{search_for}
-use Rattle.cleaning.specs.EntriesLaws.{Meets, meets, stops_end, stops-damage, tombstone-length, meets-long, slot-lies, slot-long, place_short}
+use Rattle.cleaning.specs.EntriesLaws.{Meets}
+use Rattle.cleaning.proofs.EntriesLaws.{meets, stops_end, stops-damage, tombstone-length, meets-long, slot-lies, slot-long, place_short}
 use Rattle.joining.specs.NotesLaws.{Noting, noting-start, noting-tombstone, noting-object, noting-stop, found-short}
 use Rattle.joining.proofs.notes.note_slot.Goals as goal
 use Rattle.joining.proofs.notes.note_slot.Goals.{After-cut-s, After-head_size-counted, After-head_size-head, At-loop-header, In-Entry}

@@ -2,7 +2,7 @@
 use mathlib.Core.Path.{refl, sym, ◌∙◌}
 use Prim.Native.Nat.{◌+◌, ◌*◌, ◌≤◌}
 use native.Mathlib.Omega.{arith}
-use Rattle.segment.specs.LayoutLaws.{width-high}
+use Rattle.segment.proofs.LayoutLaws.{width-high}
 use Rattle.joining.specs.WeightsLaws.{fits-order, fits-first, fits-second, fits_both}
 use Rattle.joining.proofs.pairs.pair_fits.Goals as goal
 use Rattle.joining.proofs.pairs.pair_fits.Goals.{After-digest_size}

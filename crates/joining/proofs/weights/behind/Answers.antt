@@ -1,5 +1,6 @@
 use native.Mathlib.Omega.{arith}
-use Rattle.cleaning.specs.EntriesLaws.{Meets, meets}
+use Rattle.cleaning.specs.EntriesLaws.{Meets}
+use Rattle.cleaning.proofs.EntriesLaws.{meets}
 use Rattle.joining.specs.WeightsLaws.{passed_start, passed-object}
 use Rattle.joining.proofs.weights.behind.Goals as goal
 use Rattle.joining.proofs.weights.behind.Goals.{In-Entry}

@@ -2,7 +2,7 @@
 use mathlib.Core.Path.{sym, ◌∙◌, ap}
 use native.Mathlib.Omega.{arith}
 use Rattle.segment.specs.Digest.{layout_in}
-use Rattle.cleaning.specs.EntriesLaws.{slot-lies}
+use Rattle.cleaning.proofs.EntriesLaws.{slot-lies}
 use Rattle.joining.specs.WeightsLaws.{rows-skip, rows_none, rows_more}
 use Rattle.joining.proofs.weights.weigh_part.Goals as goal
 

@@ -3,8 +3,9 @@ use mathlib.Core.Bool.{true}
 use mathlib.Core.Path.{◌≡◌, sym, ◌∙◌, subst⁻¹}
 use native.Mathlib.Omega.{arith}
 use lib.ListN.{length}
-use Rattle.segment.specs.LayoutLaws.{width-high}
-use Rattle.cleaning.specs.EntriesLaws.{Meets, meets, stops_end, stops-damage, tombstone-length, slot-lies, slot-long, place_short}
+use Rattle.segment.proofs.LayoutLaws.{width-high}
+use Rattle.cleaning.specs.EntriesLaws.{Meets}
+use Rattle.cleaning.proofs.EntriesLaws.{meets, stops_end, stops-damage, tombstone-length, slot-lies, slot-long, place_short}
 use Rattle.joining.specs.Weights.{ShareFits}
 use Rattle.joining.specs.WeightsLaws.{Weighing, weighing-start, weighing-tombstone, weighing-object, weighing-passed, weighing-stop, note-fits, share-short}
 use Rattle.joining.proofs.weights.weigh_slot.Goals as goal

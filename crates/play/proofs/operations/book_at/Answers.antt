@@ -1,6 +1,6 @@
 -- `book_at` meets its contract.
 use Rattle.std.proofs.Common.{sym, eq-eqb, ne_eqb}
-use Rattle.segment.specs.Choice.{pick_true, pick-false}
+use Rattle.segment.proofs.Choice.{pick_true, pick-false}
 use Rattle.play.proofs.operations.book_at.Goals as goal
 
 pub returns-then-left-eq0 : goal.returns-then-left-eq0

@@ -2,7 +2,7 @@
 use mathlib.Core.Bool.{not}
 use Prim.Native.Nat.{ℕ}
 use mathlib.Core.Path.{◌≡◌, refl, sym, ◌∙◌, ap}
-use Rattle.segment.specs.Choice.{both-false-left}
+use Rattle.segment.proofs.Choice.{both-false-left}
 use Rattle.segment.specs.Layout.{digest_size}
 use Rattle.record.specs.Range.{between}
 use Rattle.record.specs.declared.Record.{Record}

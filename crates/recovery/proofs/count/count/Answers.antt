@@ -1,6 +1,6 @@
 use mathlib.Core.Path.{sym}
 use native.Mathlib.Omega.{arith}
-use Rattle.recovery.specs.CountLaws.{count-starts, count_turn, count-ends}
+use Rattle.recovery.proofs.CountLaws.{count-starts, count_turn, count-ends}
 use Rattle.recovery.proofs.count.count.Goals as goal
 
 pub loop-i-init : goal.loop-i-init

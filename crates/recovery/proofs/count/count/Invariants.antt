@@ -1,7 +1,7 @@
 -- `recovery::count::count` meets its contract.
 use Prim.Native.Nat.{◌-◌}
 use lib.ListN.{length}
-use Rattle.recovery.specs.CountLaws.{Counting}
+use Rattle.recovery.proofs.CountLaws.{Counting}
 use Rattle.recovery.proofs.count.count.Given as goal
 
 abbrev pub invariant-loop-i : goal.invariant-loop-i

@@ -3,7 +3,7 @@ use Prim.Native.Nat.{◌-◌}
 use mathlib.Core.Path.{◌≡◌}
 use native.Mathlib.Omega.{arith}
 use borrow.Author.Rules.{rules}
-use Rattle.recovery.specs.CountLaws.{object-most, count-free, count_held}
+use Rattle.recovery.proofs.CountLaws.{object-most, count-free, count_held}
 use Rattle.recovery.proofs.count.count_cell.Goals as goal
 
 pub returns-then-cell-eq0 : goal.returns-then-cell-eq0

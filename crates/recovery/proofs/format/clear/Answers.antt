@@ -4,7 +4,7 @@ use mathlib.Core.List.{List}
 use native.Mathlib.Omega.{arith}
 use lib.ListN.{length, set, length-set}
 use Rattle.model.specs.Operations.{cleared}
-use Rattle.recovery.specs.FormatLaws.{cleared-none, cleared-turn, slot-first}
+use Rattle.recovery.proofs.FormatLaws.{cleared-none, cleared-turn, slot-first}
 use Rattle.recovery.proofs.format.clear.Goals as goal
 
 pub loop-i-init : goal.loop-i-init

@@ -1,6 +1,6 @@
 -- `recovery::format::format` meets its contract: the number names one of the two editions, or none.
 use Rattle.segment.specs.Layout.{number_of_layout}
-use Rattle.recovery.specs.FormatLaws.{format-unknown}
+use Rattle.recovery.proofs.FormatLaws.{format-unknown}
 use Rattle.recovery.proofs.format.format.Goals as goal
 
 pub returns-then-edition-eq1 : goal.returns-then-edition-eq1

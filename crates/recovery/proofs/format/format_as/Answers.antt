@@ -3,8 +3,9 @@ use Prim.Native.Nat.{ℕ}
 use mathlib.Core.Path.{sym, ◌∙◌, ap}
 use native.Mathlib.Omega.{arith}
 use lib.ListN.{length, set, length-set}
-use Rattle.segment.specs.LayoutLaws.{width-high}
-use Rattle.recovery.specs.FormatLaws.{Fits, geometry-fits, format-refused, format-done}
+use Rattle.segment.proofs.LayoutLaws.{width-high}
+use Rattle.recovery.specs.FormatLaws.{Fits, geometry-fits}
+use Rattle.recovery.proofs.FormatLaws.{format-refused, format-done}
 use Rattle.recovery.proofs.format.format_as.Goals as goal
 use Rattle.recovery.proofs.format.format_as.Goals.{Else-geometry_bad}
 

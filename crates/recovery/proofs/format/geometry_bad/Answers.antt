@@ -2,7 +2,7 @@
 use mathlib.Core.Path.{sym, ◌∙◌}
 use borrow.Author.Rules.{rules}
 use Rattle.word.specs.Laws.{product_lt}
-use Rattle.recovery.specs.FormatLaws.{geometry-slots, geometry-size, geometry-area}
+use Rattle.recovery.proofs.FormatLaws.{geometry-slots, geometry-size, geometry-area}
 use Rattle.recovery.proofs.format.geometry_bad.Goals as goal
 
 pub returns-then-not-slots_good : goal.returns-then-not-slots_good

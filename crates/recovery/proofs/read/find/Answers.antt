@@ -5,7 +5,7 @@ use lib.ListN.{length}
 use Rattle.record.specs.Range.{fits_lent}
 use Rattle.record.specs.Reach.{holds_table}
 use Rattle.recovery.specs.Lookups.{lookup_at}
-use Rattle.recovery.specs.LookupLaws.{looked-unfit, looked-outside, looked-fit, reached}
+use Rattle.recovery.proofs.LookupLaws.{looked-unfit, looked-outside, looked-fit, reached}
 use Rattle.recovery.proofs.read.find.Goals as goal
 use Rattle.recovery.proofs.read.find.Goals.{Else-not-fits_lent, Else-not-holds_table}
 

@@ -1,5 +1,5 @@
 -- `recovery::read::read` meets its contract.
-use Rattle.recovery.specs.LookupLaws.{read-promise}
+use Rattle.recovery.proofs.LookupLaws.{read-promise}
 use Rattle.recovery.proofs.read.read.Goals as goal
 
 pub returns : goal.returns

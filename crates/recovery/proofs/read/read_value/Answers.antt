@@ -6,7 +6,8 @@ use lib.ListN.{take, drop}
 use Rattle.segment.specs.Layout.{Layout, layout_of_kind, entry_size}
 use Rattle.model.specs.Promises.{nowhere}
 use Rattle.recovery.specs.Lookups.{part_by}
-use Rattle.recovery.specs.LookupLaws.{ObjectInside, object-inside, value-promise}
+use Rattle.recovery.specs.LookupLaws.{ObjectInside}
+use Rattle.recovery.proofs.LookupLaws.{object-inside, value-promise}
 use Rattle.recovery.proofs.read.read_value.Goals as goal
 use Rattle.recovery.proofs.read.read_value.Goals.{After-head_size, In-Object}
 

@@ -2,7 +2,7 @@
 use mathlib.Core.Path.{ap}
 use mathlib.Core.Bool.{not}
 use Prim.Native.Nat.{ℕ}
-use Rattle.recovery.specs.CheckLaws.{digest-counters, digest-map, digest-named, digest-passed}
+use Rattle.recovery.proofs.CheckLaws.{digest-counters, digest-map, digest-named, digest-passed}
 use Rattle.model.specs.Log.{View, Head, views_of}
 use Rattle.recovery.proofs.recover.check_digest.Goals as goal
 use Rattle.recovery.proofs.recover.check_digest.Goals.{Start}

@@ -5,7 +5,7 @@ use native.Mathlib.Omega.{arith}
 use Rattle.record.specs.Range.{cells_good}
 use Rattle.model.specs.Recovery.{geometry_bad}
 use Rattle.recovery.specs.FormatLaws.{geometry-fits}
-use Rattle.recovery.specs.CheckLaws.{lent-geometry, lent-cells, lent-order, lent-passed}
+use Rattle.recovery.proofs.CheckLaws.{lent-geometry, lent-cells, lent-order, lent-passed}
 use Rattle.recovery.proofs.recover.check_lent.Goals as goal
 use Rattle.recovery.proofs.recover.check_lent.Goals.{Else-geometry_bad, Else-not-cells_good}
 

@@ -1,6 +1,6 @@
 -- `recovery::recover::digest_bad` meets its contract: either of two tests is enough.
 use mathlib.Core.Path.{refl}
-use Rattle.recovery.specs.CheckLaws.{holds, passed}
+use Rattle.recovery.proofs.CheckLaws.{holds, passed}
 use Rattle.recovery.proofs.recover.digest_bad.Goals as goal
 
 pub returns-then-number_bad : goal.returns-then-number_bad

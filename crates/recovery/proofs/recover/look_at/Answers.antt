@@ -3,7 +3,7 @@ use mathlib.Core.Path.{◌≡◌, sym, ◌∙◌}
 use mathlib.Core.Option.{some}
 use Rattle.model.specs.Log.{views_of, head_of}
 use Rattle.laws.specs.HeadLaws.{head-is}
-use Rattle.recovery.specs.CheckLaws.{head-none, head-some}
+use Rattle.recovery.proofs.CheckLaws.{head-none, head-some}
 use Rattle.drive_log.specs.Heads.{told-nothing, told_at}
 use Rattle.recovery.proofs.recover.look_at.Goals as goal
 use Rattle.recovery.proofs.recover.look_at.Goals.{In-At}

@@ -3,7 +3,7 @@ use mathlib.Core.Path.{◌≡◌, sym, ◌∙◌, ap}
 use Rattle.segment.specs.Digest.{layout_in}
 use Rattle.model.specs.Log.{segment_of, views_of}
 use Rattle.drive_log.specs.Shape.{inside}
-use Rattle.recovery.specs.CheckLaws.{head-below, head-mixed, head-damaged, head-shared, head-sound}
+use Rattle.recovery.proofs.CheckLaws.{head-below, head-mixed, head-damaged, head-shared, head-sound}
 use borrow.Author.Tests.{not-true, not-false}
 use Rattle.recovery.proofs.recover.look_through.Goals as goal
 use Rattle.recovery.proofs.recover.look_through.Goals.{After-edition_of-edition}

@@ -1,6 +1,6 @@
 -- `recovery::recover::look_under` meets its contract: the digest's causes come before those of its log.
 use mathlib.Core.Path.{sym, ◌∙◌}
-use Rattle.recovery.specs.CheckLaws.{check-refused, check-passed, head-digest}
+use Rattle.recovery.proofs.CheckLaws.{check-refused, check-passed, head-digest}
 use Rattle.recovery.proofs.recover.look_under.Goals as goal
 
 pub look_through-requires : goal.look_through-requires

@@ -1,5 +1,5 @@
 -- `recovery::recover::next_version` meets its contract.
-use Rattle.recovery.specs.CheckLaws.{next-above, next-kept}
+use Rattle.recovery.proofs.CheckLaws.{next-above, next-kept}
 use borrow.Author.Rules.{rules}
 use Rattle.recovery.proofs.recover.next_version.Goals as goal
 

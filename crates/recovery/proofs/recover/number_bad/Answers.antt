@@ -1,7 +1,7 @@
 -- `recovery::recover::number_bad` meets its contract.
 use mathlib.Core.Path.{refl}
 use borrow.Author.Tests.{eq-eqb, ne_eqb}
-use Rattle.recovery.specs.CheckLaws.{holds, passed}
+use Rattle.recovery.proofs.CheckLaws.{holds, passed}
 use Rattle.recovery.proofs.recover.number_bad.Goals as goal
 
 pub returns-then-number-eq0 : goal.returns-then-number-eq0

@@ -1,6 +1,6 @@
 -- `recovery::recover::order_bad` meets its contract.
 use mathlib.Core.Path.{sym}
-use Rattle.recovery.specs.Order.{order-length, order-slots}
+use Rattle.recovery.proofs.Order.{order-length, order-slots}
 use Rattle.recovery.proofs.recover.order_bad.Goals as goal
 
 pub returns-then-order-n : goal.returns-then-order-n

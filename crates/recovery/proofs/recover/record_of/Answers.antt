@@ -4,7 +4,8 @@ use mathlib.Core.Path.{◌≡◌, ◌∙◌, ap}
 use mathlib.Core.List.{List}
 use native.Mathlib.Omega.{arith}
 use Rattle.model.specs.Log.{segment_of, scan, end_of}
-use Rattle.recovery.specs.CheckLaws.{end_fits, record-with}
+use Rattle.recovery.specs.CheckLaws.{record-with}
+use Rattle.recovery.proofs.CheckLaws.{end_fits}
 use Rattle.recovery.proofs.recover.record_of.Goals as goal
 use Rattle.recovery.proofs.recover.record_of.Goals.{After-end_of-end}
 

@@ -1,7 +1,7 @@
 -- `recovery::recover::recover` meets its contract.
 use mathlib.Core.Path.{sym, ◌∙◌}
-use Rattle.recovery.specs.CheckLaws.{check-refused, check-passed}
-use Rattle.recovery.specs.RecoverPromises.{lent-promise}
+use Rattle.recovery.proofs.CheckLaws.{check-refused, check-passed}
+use Rattle.recovery.proofs.RecoverPromises.{lent-promise}
 use Rattle.recovery.proofs.recover.recover.Goals as goal
 
 pub recover_image-requires : goal.recover_image-requires

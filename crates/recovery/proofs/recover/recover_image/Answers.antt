@@ -5,7 +5,7 @@ use native.Mathlib.Omega.{arith}
 use Rattle.model.specs.Log.{views_of}
 use Rattle.laws.specs.Stores.{slot-inside}
 use Rattle.recovery.specs.Recovering.{image_of}
-use Rattle.recovery.specs.RecoverPromises.{lent_fits, lent-shape, cells-few, keys-few, cells-kept, head-inside, highest-fits, image-promise, over-promise, keys-promise}
+use Rattle.recovery.proofs.RecoverPromises.{lent_fits, lent-shape, cells-few, keys-few, cells-kept, head-inside, highest-fits, image-promise, over-promise, keys-promise}
 use Rattle.recovery.specs.declared.Image.{Image}
 use Rattle.recovery.proofs.recover.recover_image.Goals as goal
 use Rattle.recovery.proofs.recover.recover_image.Goals.{In-Sound}

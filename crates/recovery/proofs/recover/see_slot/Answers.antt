@@ -1,7 +1,7 @@
 -- `recovery::recover::see_slot` meets its contract.
 use borrow.Author.Rules.{rules}
 use mathlib.Core.Path.{◌∙◌}
-use Rattle.recovery.specs.Order.{see-in, see-out}
+use Rattle.recovery.proofs.Order.{see-in, see-out}
 use Rattle.recovery.proofs.recover.see_slot.Goals as goal
 
 pub returns-then-slot-n : goal.returns-then-slot-n

@@ -2,7 +2,8 @@ use Prim.Native.Nat.{ℕ, ◌+◌}
 use mathlib.Core.Path.{refl, ◌∙◌, ap}
 use native.Mathlib.Omega.{arith}
 use lib.ListN.{drop}
-use Rattle.recovery.specs.Order.{seen_from, seen-turn, seen_end}
+use Rattle.recovery.specs.Order.{seen_from}
+use Rattle.recovery.proofs.Order.{seen-turn, seen_end}
 use Rattle.recovery.proofs.recover.slots_seen.Goals as goal
 
 pub loop-i-init : goal.loop-i-init

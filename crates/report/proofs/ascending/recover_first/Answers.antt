@@ -4,7 +4,7 @@ use mathlib.Core.Path.{sym, ap}
 use native.Mathlib.Omega.{arith}
 use lib.ListN.{take}
 use lib.Seq.{length-take-le}
-use Rattle.report.specs.Recovered.{order_same}
+use Rattle.report.proofs.Recovered.{order_same}
 use Rattle.report.proofs.ascending.recover_first.Goals as goal
 
 pub slice_bounds-recover-end : goal.slice_bounds-recover-end

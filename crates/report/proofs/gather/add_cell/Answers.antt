@@ -1,8 +1,9 @@
 -- `report::gather::add_cell` meets its contract.
 use mathlib.Core.Path.{◌≡◌, ◌∙◌, ap, sym}
 use mathlib.Core.Option.{some}
-use Rattle.report.specs.Gather.{cell_rank, rank_read, cell_free, cell-read}
-use Rattle.report.specs.Inserting.{adds_none, adds-rank}
+use Rattle.report.specs.Gather.{cell_rank, rank_read}
+use Rattle.report.proofs.GatherLaws.{cell_free, cell-read}
+use Rattle.report.proofs.Inserting.{adds_none, adds-rank}
 use Rattle.report.proofs.gather.add_cell.Goals as goal
 use Rattle.report.proofs.gather.add_cell.Goals.{After-entry_at}
 

@@ -3,7 +3,8 @@ use mathlib.Core.Path.{refl, ◌∙◌}
 use native.Mathlib.Omega.{arith}
 use lib.ListN.{length}
 use borrow.Author.Rules.{rules}
-use Rattle.report.specs.Inserting.{gather-starts, gather-turn, gather-ends}
+use Rattle.report.specs.Inserting.{gather-starts}
+use Rattle.report.proofs.Inserting.{gather-turn, gather-ends}
 use Rattle.report.proofs.gather.gather.Goals as goal
 
 pub loop-i-init : goal.loop-i-init

@@ -1,6 +1,6 @@
 -- `report::lines::put_head` meets its contract.
 use native.Mathlib.Omega.{arith}
-use Rattle.report.specs.PutLaws.{within-then, within-put, within_more}
+use Rattle.report.proofs.PutLaws.{within-then, within-put, within_more}
 use Rattle.report.proofs.lines.put_head.Goals as goal
 
 pub returns : goal.returns

@@ -1,5 +1,5 @@
 -- `report::lines::put_key` meets its contract.
-use Rattle.report.specs.PutLaws.{within-then}
+use Rattle.report.proofs.PutLaws.{within-then}
 use Rattle.report.proofs.lines.put_key.Goals as goal
 
 pub returns : goal.returns

@@ -4,7 +4,7 @@ use mathlib.Core.Path.{ap}
 use Rattle.text.specs.Ascii.{ascii}
 use native.Mathlib.Omega.{arith}
 use Rattle.report.specs.Report.{field}
-use Rattle.report.specs.PutLaws.{within-put, within_same, within-then, within_more}
+use Rattle.report.proofs.PutLaws.{within-put, within_same, within-then, within_more}
 use Rattle.report.proofs.lines.put_refused.Goals as goal
 
 pub returns : goal.returns

@@ -1,7 +1,7 @@
 -- `report::lines::put_version` meets its contract.
 use native.Mathlib.Omega.{arith}
 use Rattle.text.specs.Put.{put-length}
-use Rattle.report.specs.PutLaws.{version-room, field-within}
+use Rattle.report.proofs.PutLaws.{version-room, field-within}
 use Rattle.report.proofs.lines.put_version.Goals as goal
 
 pub put_number-end-requires : goal.put_number-end-requires

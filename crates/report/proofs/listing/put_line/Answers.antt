@@ -3,8 +3,9 @@ use mathlib.Core.Path.{◌≡◌, sym, ◌∙◌, ap}
 use Rattle.model.specs.Log.{present}
 use Rattle.model.specs.Operations.{log_now}
 use Rattle.report.specs.Report.{line_of}
-use Rattle.report.specs.LineLaws.{line_found, line-found}
-use Rattle.report.specs.PutLaws.{within_same, within_none}
+use Rattle.report.specs.LineLaws.{line_found}
+use Rattle.report.proofs.LineLaws.{line-found}
+use Rattle.report.proofs.PutLaws.{within_same, within_none}
 use Rattle.report.proofs.listing.put_line.Goals as goal
 use Rattle.report.proofs.listing.put_line.Goals.{After-find}
 

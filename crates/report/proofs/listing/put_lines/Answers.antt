@@ -1,6 +1,6 @@
 use native.Mathlib.Omega.{arith}
-use Rattle.report.specs.Gather.{keys-typed}
-use Rattle.report.specs.LineLaws.{lines_start, lines_end, lines-turn, rank-fits}
+use Rattle.report.proofs.GatherLaws.{keys-typed}
+use Rattle.report.proofs.LineLaws.{lines_start, lines_end, lines-turn, rank-fits}
 use Rattle.report.proofs.listing.put_lines.Goals as goal
 
 pub loop-i-init : goal.loop-i-init

@@ -3,9 +3,10 @@ use mathlib.Core.Path.{sym, ap}
 use native.Mathlib.Omega.{arith}
 use Rattle.text.specs.Put.{put-length}
 use Rattle.report.specs.Report.{head_line}
-use Rattle.report.specs.Gather.{cells-few}
-use Rattle.report.specs.PutLaws.{within_same, within-then, within_more}
-use Rattle.report.specs.LineLaws.{Listed, gathered-listed}
+use Rattle.report.proofs.GatherLaws.{cells-few}
+use Rattle.report.proofs.PutLaws.{within_same, within-then, within_more}
+use Rattle.report.specs.LineLaws.{Listed}
+use Rattle.report.proofs.LineLaws.{gathered-listed}
 use Rattle.report.proofs.listing.put_listing.Goals as goal
 use Rattle.report.proofs.listing.put_listing.Goals.{After-gather-keys}
 

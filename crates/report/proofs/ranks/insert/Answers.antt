@@ -3,7 +3,7 @@ use mathlib.Core.Path.{refl, sym, ◌∙◌}
 use native.Mathlib.Omega.{arith}
 use lib.ListN.{length, length-set}
 use borrow.Author.Rules.{rules}
-use Rattle.report.specs.Inserting.{carry-turn, carry-end}
+use Rattle.report.proofs.Inserting.{carry-turn, carry-end}
 use Rattle.report.proofs.ranks.insert.Goals as goal
 
 pub loop-i-init : goal.loop-i-init

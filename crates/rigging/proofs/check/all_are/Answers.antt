@@ -1,7 +1,7 @@
 use mathlib.Core.Path.{refl}
 use native.Mathlib.Omega.{arith}
 use Rattle.rig_model.specs.Verdict.{all_are}
-use Rattle.rig_model.specs.CheckLaws.{are-turn, are-not, are-end, eight-not, eight_is}
+use Rattle.rig_model.proofs.CheckLaws.{are-turn, are-not, are-end, eight-not, eight_is}
 use Rattle.rigging.proofs.check.all_are.Goals as goal
 
 pub returns-then-bytes-ne8 : goal.returns-then-bytes-ne8

@@ -1,6 +1,6 @@
 -- `rigging::check::key_as` meets its contract.
 use mathlib.Core.Path.{refl}
-use Rattle.rig_model.specs.CheckLaws.{version-differs, absent-as, value_as}
+use Rattle.rig_model.proofs.CheckLaws.{version-differs, absent-as, value_as}
 use Rattle.rigging.proofs.check.key_as.Goals as goal
 
 pub returns-then-version-held : goal.returns-then-version-held

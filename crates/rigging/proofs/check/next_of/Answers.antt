@@ -1,6 +1,6 @@
 -- `rigging::check::next_of` meets its contract.
 use native.Mathlib.Omega.{arith}
-use Rattle.rig_model.specs.CheckLaws.{next-record, next-log, shape, area-long}
+use Rattle.rig_model.proofs.CheckLaws.{next-record, next-log, shape, area-long}
 use Rattle.rigging.proofs.check.next_of.Goals as goal
 
 pub returns-then-not-faulty : goal.returns-then-not-faulty

@@ -4,7 +4,7 @@ use mathlib.Core.Path.{refl}
 use mathlib.Core.List.{◌∷◌}
 use native.Mathlib.Omega.{arith}
 use Rattle.word.specs.Number.{Bytes}
-use Rattle.rig_model.specs.CheckLaws.{recovered-none, recovered-ready, order-mixed, wrong-refused, wrong-store}
+use Rattle.rig_model.proofs.CheckLaws.{recovered-none, recovered-ready, order-mixed, wrong-refused, wrong-store}
 use Rattle.rigging.proofs.check.recovers_wrongly.Goals as goal
 
 pub store_as-requires : goal.store_as-requires

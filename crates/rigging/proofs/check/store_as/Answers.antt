@@ -4,10 +4,10 @@ use lib.Dec.{lit<}
 use Rattle.segment.specs.declared.Key.{Key}
 use Rattle.model.specs.Log.{present}
 use Rattle.model.specs.Operations.{log_now}
-use Rattle.report.specs.Gather.{cells-few}
-use Rattle.report.specs.LineLaws.{gathered-listed}
+use Rattle.report.proofs.GatherLaws.{cells-few}
+use Rattle.report.proofs.LineLaws.{gathered-listed}
 use Rattle.rig_model.specs.Verdict.{key_as}
-use Rattle.rig_model.specs.CheckLaws.{recovered-area, other-next, other-count, other-first, second-decides}
+use Rattle.rig_model.proofs.CheckLaws.{recovered-area, other-next, other-count, other-first, second-decides}
 use Rattle.rigging.proofs.check.store_as.Goals as goal
 
 pub next_of-requires : goal.next_of-requires

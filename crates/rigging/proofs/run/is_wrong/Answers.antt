@@ -2,11 +2,11 @@ use mathlib.Core.List.{[]}
 use Prim.Native.Nat.{◌-◌}
 use mathlib.Core.Path.{refl, sym}
 use native.Mathlib.Omega.{arith}
-use Rattle.rig_model.specs.CheckLaws.{area-long}
+use Rattle.rig_model.proofs.CheckLaws.{area-long}
 use Rattle.histories.specs.Numbered.{word, unit-positive}
 use Rattle.rig_model.specs.Verdict.{history_wrong}
-use Rattle.rig_model.specs.PlayLaws.{format-fresh, fresh-ready, word-start}
-use Rattle.rig_model.specs.LoopLaws.{run-wrong, run-turn, run_end}
+use Rattle.rig_model.proofs.PlayLaws.{format-fresh, fresh-ready, word-start}
+use Rattle.rig_model.proofs.LoopLaws.{run-wrong, run-turn, run_end}
 use Rattle.rigging.proofs.run.is_wrong.Goals as goal
 
 pub loop-left-init : goal.loop-left-init

@@ -1,6 +1,6 @@
 use mathlib.Core.Path.{refl}
 use native.Mathlib.Omega.{arith}
-use Rattle.rig_model.specs.LoopLaws.{play-refused, play-starts, play-wrong, play-turn, play-ends}
+use Rattle.rig_model.proofs.LoopLaws.{play-refused, play-starts, play-wrong, play-turn, play-ends}
 use Rattle.rigging.proofs.run.play.Goals as goal
 
 pub returns-in_default : goal.returns-in_default

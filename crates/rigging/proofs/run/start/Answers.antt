@@ -1,5 +1,5 @@
 -- `rigging::run::start` meets its contract.
-use Rattle.rig_model.specs.PlayLaws.{start-write-a, start-write-b, start-delete-a, start-delete-b, start-clean}
+use Rattle.rig_model.proofs.PlayLaws.{start-write-a, start-write-b, start-delete-a, start-delete-b, start-clean}
 use Rattle.rigging.proofs.run.start.Goals as goal
 
 pub returns-in-WriteA : goal.returns-in-WriteA

@@ -1,7 +1,7 @@
 use mathlib.Core.Path.{refl, ◌∙◌, ap}
 use native.Mathlib.Omega.{arith}
 use lib.ListN.{length}
-use Rattle.segment.specs.Entries.{next-end, next-damage}
+use Rattle.segment.proofs.EntriesLaws.{next-end, next-damage}
 use Rattle.model.specs.Log.{is_damaged}
 use Rattle.laws.specs.Stores.{length-segment}
 use Rattle.drive_log.specs.Shape.{own-scan}

@@ -1,5 +1,5 @@
 -- `segment::area::edition_at` meets its contract.
-use Rattle.segment.specs.Area.{layout-past}
+use Rattle.segment.proofs.AreaLaws.{layout-past}
 use Rattle.segment.proofs.area.edition_at.Goals as goal
 
 pub returns-then-area-place : goal.returns-then-area-place

@@ -1,5 +1,6 @@
 -- `segment::entries::next` meets its contract.
-use Rattle.segment.specs.Entries.{next_read, next-read}
+use Rattle.segment.specs.Entries.{next_read}
+use Rattle.segment.proofs.EntriesLaws.{next-read}
 use Rattle.segment.proofs.entries.next.Goals as goal
 
 pub returns-in-Object : goal.returns-in-Object

@@ -3,7 +3,7 @@ use mathlib.Core.Path.{sym}
 use native.Mathlib.Omega.{arith}
 use lib.Dec.{ltb}
 use borrow.Author.Tests.{lt-ltb, le-ltb}
-use Rattle.segment.specs.Choice.{pick_true, pick-false}
+use Rattle.segment.proofs.Choice.{pick_true, pick-false}
 use Rattle.segment.specs.Layout.{edition1, edition2, layout_of_kind, table}
 use Rattle.segment.proofs.layout.edition_of_kind.Goals as goal
 

@@ -4,10 +4,10 @@ use native.Mathlib.Omega.{arith}
 use lib.Dec.{eqb}
 use lib.ListN.{get_or, get_or-eq_default}
 use borrow.Author.Tests.{ne_eqb}
-use Rattle.segment.specs.Choice.{pick-false}
+use Rattle.segment.proofs.Choice.{pick-false}
 use Rattle.segment.specs.Digest.{layout_in}
 use Rattle.segment.specs.Layout.{edition1, edition2, table}
-use Rattle.segment.specs.LayoutLaws.{layout-in}
+use Rattle.segment.proofs.LayoutLaws.{layout-in}
 use Rattle.segment.proofs.reader.edition_of.Goals as goal
 
 pub returns-then-s-eq0 : goal.returns-then-s-eq0

@@ -5,7 +5,8 @@ use lib.Dec.{eqb}
 use lib.ListN.{get_or, get_or-eq_default}
 use borrow.Author.Tests.{ne_eqb}
 use Rattle.segment.specs.Digest.{layout_in}
-use Rattle.segment.specs.Layout.{Layout, table, digest-not-end}
+use Rattle.segment.specs.Layout.{Layout, table}
+use Rattle.segment.proofs.LayoutFacts.{digest-not-end}
 use Rattle.segment.proofs.reader.is_digest.Goals as goal
 
 pub returns-then-s-eq0 : goal.returns-then-s-eq0

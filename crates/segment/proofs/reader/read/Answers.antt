@@ -4,9 +4,9 @@ use mathlib.Core.Path.{sym, ◌∙◌, ap}
 use native.Mathlib.Omega.{arith}
 use lib.ListN.{length}
 use Rattle.segment.specs.Layout.{table}
-use Rattle.segment.specs.LayoutLaws.{width_low}
-use Rattle.segment.specs.Kinds.{size-least}
-use Rattle.segment.specs.ReaderLaws.{reads-past, reads-at-end, reads-kind-end, reads-unknown, reads-long, reads-bad-version, reads-tombstone, reads-object}
+use Rattle.segment.proofs.LayoutLaws.{width_low}
+use Rattle.segment.proofs.KindsLaws.{size-least}
+use Rattle.segment.proofs.ReaderLaws.{reads-past, reads-at-end, reads-kind-end, reads-unknown, reads-long, reads-bad-version, reads-tombstone, reads-object}
 use Rattle.segment.specs.declared.Version.{Version}
 use borrow.Author.Rules.{rules}
 use Rattle.segment.proofs.reader.read.Goals as goal

@@ -4,7 +4,7 @@ use mathlib.Core.Path.{sym, ◌∙◌, ap}
 use native.Mathlib.Omega.{arith}
 use lib.ListN.{take, drop}
 use Rattle.word.specs.Number.{number_of}
-use Rattle.segment.specs.LayoutLaws.{first_width, second-width}
+use Rattle.segment.proofs.LayoutLaws.{first_width, second-width}
 use Rattle.segment.proofs.reader.version_at.Goals as goal
 
 pub read32-requires : goal.read32-requires

@@ -1,6 +1,6 @@
 -- `segment::rewrite::kind_as` meets its contract.
 use mathlib.Core.Path.{◌∙◌}
-use Rattle.segment.specs.Rewritten.{kind-tombstone, kind-object}
+use Rattle.segment.proofs.Rewritten.{kind-tombstone, kind-object}
 use Rattle.segment.proofs.rewrite.kind_as.Goals as goal
 
 pub returns-then-tombstone : goal.returns-then-tombstone

@@ -1,5 +1,5 @@
 -- `segment::rewrite::put_entry` meets its contract.
-use Rattle.segment.specs.Rewritten.{cut-value, entry-put}
+use Rattle.segment.proofs.Rewritten.{cut-value, entry-put}
 use Rattle.segment.proofs.rewrite.put_entry.Goals as goal
 
 pub returns : goal.returns

@@ -6,8 +6,8 @@ use lib.ListN.{set, length-set}
 use lib.Seq.{sets}
 use Rattle.word.specs.Number.{bytes_of}
 use Rattle.segment.specs.Layout.{table}
-use Rattle.segment.specs.Written.{sets-packed}
-use Rattle.segment.specs.LayoutLaws.{width_low}
+use Rattle.segment.proofs.Written.{sets-packed}
+use Rattle.segment.proofs.LayoutLaws.{width_low}
 use Rattle.segment.proofs.writer.write_digest.Goals as goal
 
 pub write32-requires : goal.write32-requires

@@ -1,6 +1,7 @@
 -- `segment::writer::write_entry` meets its contract: the value follows the bytes before it.
 use mathlib.Core.Path.{sym, ◌∙◌}
-use Rattle.segment.specs.Written.{encoded_head, sets_then, length-encoded_head}
+use Rattle.segment.specs.Written.{encoded_head}
+use Rattle.segment.proofs.Written.{sets_then, length-encoded_head}
 use Rattle.segment.proofs.writer.write_entry.Goals as goal
 
 pub returns : goal.returns

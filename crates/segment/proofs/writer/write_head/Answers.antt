@@ -2,8 +2,8 @@
 use native.Mathlib.Omega.{arith}
 use lib.ListN.{length-set}
 use Rattle.segment.specs.Layout.{table}
-use Rattle.segment.specs.Written.{sets-packed}
-use Rattle.segment.specs.LayoutLaws.{width_low}
+use Rattle.segment.proofs.Written.{sets-packed}
+use Rattle.segment.proofs.LayoutLaws.{width_low}
 use Rattle.segment.proofs.writer.write_head.Goals as goal
 
 pub write16-requires : goal.write16-requires

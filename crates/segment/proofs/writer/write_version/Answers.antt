@@ -5,7 +5,7 @@ use native.Mathlib.Omega.{arith}
 use lib.Seq.{sets}
 use Rattle.word.specs.Number.{bytes_of}
 use Rattle.word.specs.Laws.{bytes_of-low}
-use Rattle.segment.specs.LayoutLaws.{first_width, second-width}
+use Rattle.segment.proofs.LayoutLaws.{first_width, second-width}
 use Rattle.segment.proofs.writer.write_version.Goals as goal
 
 pub write32-requires : goal.write32-requires

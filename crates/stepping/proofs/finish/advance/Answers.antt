@@ -1,5 +1,5 @@
 -- `stepping::finish::advance` meets its contract.
-use Rattle.stepping.specs.FinishLaws.{advance-left, advance-last}
+use Rattle.stepping.proofs.FinishLaws.{advance-left, advance-last}
 use Rattle.stepping.proofs.finish.advance.Goals as goal
 
 pub returns-then-left-gt1 : goal.returns-then-left-gt1

@@ -1,5 +1,5 @@
 -- `stepping::finish::answered` meets its contract.
-use Rattle.stepping.specs.FinishLaws.{told-keys, told_over, told-many}
+use Rattle.stepping.proofs.FinishLaws.{told-keys, told_over, told-many}
 use Rattle.stepping.proofs.finish.answered.Goals as goal
 
 pub returns-then-n-rec : goal.returns-then-n-rec

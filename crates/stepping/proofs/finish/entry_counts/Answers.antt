@@ -6,7 +6,7 @@ use Prim.Native.Nat.{ℕ}
 use lib.ListN.{get_or}
 use Rattle.record.specs.RangeLaws.{counts-below}
 use Rattle.model.specs.Counts.{more_bytes}
-use Rattle.stepping.specs.FinishLaws.{lost-few}
+use Rattle.stepping.proofs.FinishLaws.{lost-few}
 use Rattle.stepping.proofs.finish.entry_counts.Goals as goal
 
 pub more-requires : goal.more-requires

@@ -1,9 +1,9 @@
 -- `stepping::finish::finish` meets its contract.
 use native.Mathlib.Omega.{arith}
-use Rattle.segment.specs.LayoutLaws.{limit-high}
+use Rattle.segment.proofs.LayoutLaws.{limit-high}
 use Rattle.record.specs.Switch.{new_layout}
-use Rattle.stepping.specs.FinishLaws.{in-append, in_head, in_clean, in-forget, with-idle, with_append, with-head, with-clean, with-forget}
-use Rattle.telling.specs.AgreeLaws.{append-agrees, head-agrees, clean-agrees, forget-agrees}
+use Rattle.stepping.proofs.FinishLaws.{in-append, in_head, in_clean, in-forget, with-idle, with_append, with-head, with-clean, with-forget}
+use Rattle.telling.proofs.AgreeLaws.{append-agrees, head-agrees, clean-agrees, forget-agrees}
 use Rattle.stepping.proofs.finish.finish.Goals as goal
 
 pub finish_append-requires : goal.finish_append-requires

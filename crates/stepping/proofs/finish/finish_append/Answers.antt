@@ -1,6 +1,6 @@
 -- `stepping::finish::finish_append` meets its contract.
 use native.Mathlib.Omega.{arith}
-use Rattle.stepping.specs.FinishLaws.{segment-in, append-goes}
+use Rattle.stepping.proofs.FinishLaws.{segment-in, append-goes}
 use Rattle.stepping.proofs.finish.finish_append.Goals as goal
 
 pub finish_entry-requires : goal.finish_entry-requires

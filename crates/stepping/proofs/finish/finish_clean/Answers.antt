@@ -1,6 +1,6 @@
 -- `stepping::finish::finish_clean` meets its contract.
 use native.Mathlib.Omega.{arith}
-use Rattle.stepping.specs.FinishLaws.{segment-in, clean-goes}
+use Rattle.stepping.proofs.FinishLaws.{segment-in, clean-goes}
 use Rattle.stepping.proofs.finish.finish_clean.Goals as goal
 
 pub finish_rebuilt-requires : goal.finish_rebuilt-requires

@@ -1,6 +1,6 @@
 -- `stepping::finish::finish_entry` meets its contract.
 use native.Mathlib.Omega.{arith}
-use Rattle.stepping.specs.FinishLaws.{place-fits, object-short, entry-object, entry-tombstone, entry-end, entry-damage}
+use Rattle.stepping.proofs.FinishLaws.{place-fits, object-short, entry-object, entry-tombstone, entry-end, entry-damage}
 use Rattle.stepping.proofs.finish.finish_entry.Goals as goal
 
 pub put_entry-requires : goal.put_entry-requires

@@ -1,6 +1,6 @@
 -- `stepping::finish::finish_forget` meets its contract.
 use native.Mathlib.Omega.{arith}
-use Rattle.stepping.specs.FinishLaws.{segment-in, forget_goes}
+use Rattle.stepping.proofs.FinishLaws.{segment-in, forget_goes}
 use Rattle.stepping.proofs.finish.finish_forget.Goals as goal
 
 pub finish_rebuilt-requires : goal.finish_rebuilt-requires

@@ -1,7 +1,7 @@
 -- `stepping::finish::finish_head` meets its contract.
 use native.Mathlib.Omega.{arith}
-use Rattle.segment.specs.LayoutLaws.{width-high}
-use Rattle.stepping.specs.FinishLaws.{segment-in, head-goes}
+use Rattle.segment.proofs.LayoutLaws.{width-high}
+use Rattle.stepping.proofs.FinishLaws.{segment-in, head-goes}
 use Rattle.stepping.proofs.finish.finish_head.Goals as goal
 
 pub finish_entry-requires : goal.finish_entry-requires

@@ -1,6 +1,6 @@
 -- `stepping::finish::finish_rebuilt` meets its contract.
 use Rattle.stepping.specs.Finish.{up_from}
-use Rattle.stepping.specs.FinishLaws.{rebuilt-goes}
+use Rattle.stepping.proofs.FinishLaws.{rebuilt-goes}
 use Rattle.stepping.proofs.finish.finish_rebuilt.Goals as goal
 
 pub returns : goal.returns

@@ -1,5 +1,5 @@
 -- `stepping::finish::keys_after` meets its contract.
-use Rattle.stepping.specs.FinishLaws.{keys-new, keys-newer, keys-older, keys-full}
+use Rattle.stepping.proofs.FinishLaws.{keys-new, keys-newer, keys-older, keys-full}
 use Rattle.stepping.proofs.finish.keys_after.Goals as goal
 
 pub returns-in-New : goal.returns-in-New

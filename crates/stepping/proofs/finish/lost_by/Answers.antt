@@ -1,5 +1,5 @@
 -- `stepping::finish::lost_by` meets its contract.
-use Rattle.stepping.specs.FinishLaws.{lost-new, lost-newer, lost-older, lost-full}
+use Rattle.stepping.proofs.FinishLaws.{lost-new, lost-newer, lost-older, lost-full}
 use Rattle.stepping.proofs.finish.lost_by.Goals as goal
 
 pub returns-in-New : goal.returns-in-New

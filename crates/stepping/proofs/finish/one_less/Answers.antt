@@ -1,5 +1,5 @@
 -- `stepping::finish::one_less` meets its contract.
-use Rattle.stepping.specs.FinishLaws.{left_is, less-idle, less-append, less-head, less-clean, less-forget}
+use Rattle.stepping.proofs.FinishLaws.{left_is, less-idle, less-append, less-head, less-clean, less-forget}
 use Rattle.stepping.proofs.finish.one_less.Goals as goal
 
 pub overflow_sub-result : goal.overflow_sub-result

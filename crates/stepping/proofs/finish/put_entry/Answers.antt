@@ -1,5 +1,5 @@
 -- `stepping::finish::put_entry` meets its contract.
-use Rattle.stepping.specs.FinishLaws.{entry-put}
+use Rattle.stepping.proofs.FinishLaws.{entry-put}
 use Rattle.stepping.proofs.finish.put_entry.Goals as goal
 
 pub returns : goal.returns

@@ -1,6 +1,6 @@
 -- `telling::agree::aim_of` meets its contract, for each kind of operation.
-use Rattle.telling.specs.AgreeLaws.{agree-idle, agree-append, agree-head, agree-clean, agree-forget}
-use Rattle.telling.specs.NextLaws.{target-idle, target-append, target-new-head, target-clean, target-forget}
+use Rattle.telling.proofs.AgreeLaws.{agree-idle, agree-append, agree-head, agree-clean, agree-forget}
+use Rattle.telling.proofs.NextLaws.{target-idle, target-append, target-new-head, target-clean, target-forget}
 use Rattle.telling.proofs.agree.aim_of.Goals as goal
 
 pub returns-in-Idle : goal.returns-in-Idle

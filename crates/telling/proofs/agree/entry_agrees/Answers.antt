@@ -4,8 +4,8 @@ use mathlib.Core.Path.{sym, ◌∙◌, ap}
 use native.Mathlib.Omega.{arith}
 use lib.Dec.{leb}
 use borrow.Author.Tests.{ltb-true, ltb-false}
-use Rattle.segment.specs.LayoutLaws.{width-high}
-use Rattle.telling.specs.AgreeLaws.{entry-spent, entry-rest}
+use Rattle.segment.proofs.LayoutLaws.{width-high}
+use Rattle.telling.proofs.AgreeLaws.{entry-spent, entry-rest}
 use Rattle.telling.proofs.agree.entry_agrees.Goals as goal
 
 pub returns-then-not-version_left : goal.returns-then-not-version_left

@@ -1,7 +1,7 @@
 -- `telling::agree::forget_agrees` meets its contract.
 use mathlib.Core.Path.{sym, ◌∙◌}
 use borrow.Author.Tests.{ltb-true, ltb-false}
-use Rattle.telling.specs.AgreeLaws.{forget-spent, forget-rest}
+use Rattle.telling.proofs.AgreeLaws.{forget-spent, forget-rest}
 use Rattle.telling.proofs.agree.forget_agrees.Goals as goal
 
 pub returns-then-not-version_left : goal.returns-then-not-version_left

@@ -3,7 +3,7 @@ use Prim.Native.Nat.{ℕ}
 use mathlib.Core.Path.{◌∙◌, ap, ap₂}
 use native.Mathlib.Omega.{arith}
 use Rattle.segment.specs.Layout.{Layout, digest_size}
-use Rattle.segment.specs.LayoutLaws.{width-high}
+use Rattle.segment.proofs.LayoutLaws.{width-high}
 use Rattle.record.specs.RangeLaws.{ends, goes}
 use Rattle.telling.specs.Agree.{entry_agrees}
 use Rattle.telling.proofs.agree.head_agrees.Goals as goal

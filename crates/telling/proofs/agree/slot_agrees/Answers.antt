@@ -1,6 +1,6 @@
 -- `telling::agree::slot_agrees` meets its contract.
 use borrow.Author.Rules.{rules}
-use Rattle.telling.specs.AgreeLaws.{slot-past, slot-spent, slot-rest}
+use Rattle.telling.proofs.AgreeLaws.{slot-past, slot-spent, slot-rest}
 use Rattle.telling.proofs.agree.slot_agrees.Goals as goal
 
 pub returns-then-rec-slot : goal.returns-then-rec-slot

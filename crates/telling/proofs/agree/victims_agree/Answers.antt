@@ -1,6 +1,6 @@
 -- `telling::agree::victims_agree` meets its contract.
 use native.Mathlib.Omega.{arith}
-use Rattle.telling.specs.AgreeLaws.{victims-short, victims-none, victims-rest}
+use Rattle.telling.proofs.AgreeLaws.{victims-short, victims-none, victims-rest}
 use Rattle.telling.proofs.agree.victims_agree.Goals as goal
 
 pub returns-then-count-digest_size : goal.returns-then-count-digest_size

@@ -3,7 +3,7 @@ use borrow.Author.Rules.{rules}
 use mathlib.Core.Path.{refl}
 use native.Mathlib.Omega.{arith}
 use Rattle.starting.specs.Stores.{stores-most}
-use Rattle.telling.specs.PlaceLaws.{place-last, place_byte, place_end}
+use Rattle.telling.proofs.PlaceLaws.{place-last, place_byte, place_end}
 use Rattle.telling.proofs.next.commit_place.Goals as goal
 
 pub overflow_add-from : goal.overflow_add-from

@@ -1,7 +1,7 @@
 -- `telling::next::fits_slot` meets its contract.
 use borrow.Author.Rules.{rules}
 use native.Mathlib.Omega.{arith}
-use Rattle.telling.specs.NextLaws.{slot-empty, slot-unread, slot-past, slot-rest, slot-end-fits}
+use Rattle.telling.proofs.NextLaws.{slot-empty, slot-unread, slot-past, slot-rest, slot-end-fits}
 use Rattle.telling.proofs.next.fits_slot.Goals as goal
 
 pub returns-then-count-eq0 : goal.returns-then-count-eq0

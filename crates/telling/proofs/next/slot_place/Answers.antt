@@ -3,8 +3,9 @@ use borrow.Author.Rules.{rules}
 use mathlib.Core.Path.{sym, ◌∙◌}
 use native.Mathlib.Omega.{arith}
 use Rattle.starting.specs.Stores.{stores-most}
-use Rattle.telling.specs.NextLaws.{Fit, slot-facts}
-use Rattle.telling.specs.PlaceLaws.{place-unfit, place-none-left, place-too-many, place-first, place-commit}
+use Rattle.telling.specs.NextLaws.{Fit}
+use Rattle.telling.proofs.NextLaws.{slot-facts}
+use Rattle.telling.proofs.PlaceLaws.{place-unfit, place-none-left, place-too-many, place-first, place-commit}
 use Rattle.telling.proofs.next.slot_place.Goals as goal
 use Rattle.telling.proofs.next.slot_place.Goals.{Else-not-fits_slot}
 

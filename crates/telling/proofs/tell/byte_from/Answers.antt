@@ -1,6 +1,6 @@
 -- `telling::tell::byte_from` meets its contract.
 use mathlib.Core.Path.{sym}
-use Rattle.segment.specs.Choice.{pick_true, pick-false}
+use Rattle.segment.proofs.Choice.{pick_true, pick-false}
 use Rattle.telling.proofs.tell.byte_from.Goals as goal
 
 pub bounds-work-from : goal.bounds-work-from

@@ -8,10 +8,10 @@ use Rattle.record.specs.Answers.{stores_left}
 use Rattle.laws.specs.OperationsKept.{edition-laws}
 use Rattle.telling.specs.Agree.{agrees_with}
 use Rattle.telling.specs.Next.{target_of, next_store}
-use Rattle.telling.specs.NextLaws.{target_first, target_left, next-target}
-use Rattle.telling.specs.ToldLaws.{tell-lent, tell-short, tell_none, tell-unfit, tell-nowhere, tell-place, tell-at}
+use Rattle.telling.proofs.NextLaws.{target_first, target_left, next-target}
+use Rattle.telling.proofs.ToldLaws.{tell-lent, tell-short, tell_none, tell-unfit, tell-nowhere, tell-place, tell-at}
 use Rattle.telling.specs.Places.{filled}
-use Rattle.telling.specs.PlaceLaws.{filled_next, copies-slot, place-refused, place-told}
+use Rattle.telling.proofs.PlaceLaws.{filled_next, copies-slot, place-refused, place-told}
 use Rattle.telling.specs.declared.Aim.{Aim}
 use Rattle.telling.proofs.tell.place_of.Goals as goal
 use Rattle.telling.proofs.tell.place_of.Goals.{After-aim_of-aim, After-next_place}

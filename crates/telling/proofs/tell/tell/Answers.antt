@@ -3,7 +3,7 @@ use mathlib.Core.Path.{ap}
 use mathlib.Core.Bool.{not}
 use mathlib.Core.Path.{sym, ◌∙◌}
 use Rattle.laws.specs.OperationsKept.{edition-laws}
-use Rattle.telling.specs.ToldLaws.{tell-bad, tell-told}
+use Rattle.telling.proofs.ToldLaws.{tell-bad, tell-told}
 use Rattle.telling.proofs.tell.tell.Goals as goal
 
 pub returns-then-not-fits_lent : goal.returns-then-not-fits_lent

@@ -1,7 +1,8 @@
 -- `writing::find::find` meets its contract.
 use mathlib.Core.Path.{sym, ◌∙◌, ap}
 use native.Mathlib.Omega.{arith}
-use Rattle.index.specs.SearchLaws.{Inside, search-inside}
+use Rattle.index.specs.SearchLaws.{Inside}
+use Rattle.index.proofs.SearchLaws.{search-inside}
 use Rattle.writing.specs.Tests.{presence_of}
 use Rattle.writing.specs.TestLaws.{presence-full, presence-free, presence-at}
 use borrow.Author.Rules.{scaled_Fits}

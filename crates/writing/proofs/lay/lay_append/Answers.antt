@@ -4,7 +4,7 @@ use mathlib.Core.Path.{◌≡◌, refl}
 use native.Mathlib.Omega.{arith}
 use lib.ListN.{length}
 use borrow.Author.Tests.{leb-true}
-use Rattle.segment.specs.Choice.{both_left}
+use Rattle.segment.proofs.Choice.{both_left}
 use Rattle.segment.specs.Layout.{entry_size}
 use Rattle.starting.specs.Stores.{stores-most}
 use Rattle.writing.specs.Laying.{append-said}

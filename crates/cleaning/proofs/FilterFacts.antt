@@ -1,0 +1,10 @@
+-- Laws of: A filter of keys, of one bit for each of 4,096 values of a key: it may have a key that it was not given, and has each that it was. The
+use Rattle.std.specs.Prelude.{ℕ, ◌*◌, ◌/◌, ◌<◌, Bool, List, replicate}
+use Rattle.std.proofs.Common.{arith}
+use Rattle.std.specs.Int.Bits.{bit_xor}
+use Rattle.segment.specs.declared.Key.{Key}
+use Rattle.cleaning.specs.Filter.{spread}
+
+pub spread-low : (k : Key) → spread k < 4096
+unfolding spread
+spread-low k = omega arith

@@ -1,0 +1,16 @@
+pub mod Begun
+pub mod ByKind
+pub mod ChosenLaws
+pub mod CleanLaws
+pub mod EntriesLaws
+pub mod FilterFacts
+pub mod FilterLaws
+pub mod KeptAlike
+pub mod KeptLaws
+pub mod KeptModel
+pub mod MarksFacts
+pub mod MarksLaws
+pub mod OutsideLaws
+pub mod RunsLaws
+pub mod TombstonesLaws
+pub mod Walks

@@ -1,0 +1,4 @@
+pub mod DeleteLaws
+pub mod ForgotLaws
+pub mod ForgotModel
+pub mod Sifted

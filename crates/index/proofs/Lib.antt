@@ -1,0 +1,11 @@
+pub mod Area
+pub mod Around
+pub mod BuildLaws
+pub mod Entries
+pub mod Finds
+pub mod Front
+pub mod InsertLaws
+pub mod Probe
+pub mod Puts
+pub mod SearchLaws
+pub mod Turns

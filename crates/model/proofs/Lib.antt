@@ -1,0 +1,14 @@
+pub mod Arguments
+pub mod Cases
+pub mod Conversion
+pub mod ConversionCases
+pub mod DigestCases
+pub mod EditionCases
+pub mod FewestCases
+pub mod Pinned
+pub mod PromiseLaws
+pub mod RequestCases
+pub mod ScanCases
+pub mod Scanned
+pub mod SwitchCases
+pub mod Table

@@ -1,0 +1,10 @@
+pub mod Ascent
+pub mod DumpLaws
+pub mod Example
+pub mod GatherLaws
+pub mod Inserting
+pub mod LineLaws
+pub mod ListingLaws
+pub mod Ordered
+pub mod PutLaws
+pub mod Recovered

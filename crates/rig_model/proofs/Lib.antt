@@ -1,0 +1,5 @@
+pub mod Cases
+pub mod CheckLaws
+pub mod LoopLaws
+pub mod PlayLaws
+pub mod RunLaws

@@ -1,0 +1,16 @@
+pub mod AnswerLaws
+pub mod AreaLaws
+pub mod Choice
+pub mod Copied
+pub mod DigestLaws
+pub mod EntriesLaws
+pub mod EntryLaws
+pub mod KindTable
+pub mod KindsLaws
+pub mod LayoutFacts
+pub mod LayoutLaws
+pub mod Packed
+pub mod ReaderLaws
+pub mod Rewritten
+pub mod ValueLaws
+pub mod Written

@@ -1,0 +1,10 @@
+pub mod AnswersLaws
+pub mod Applied
+pub mod Carried
+pub mod Commands
+pub mod Compared
+pub mod Example
+pub mod Owners
+pub mod Second
+pub mod Steps
+pub mod Switched
