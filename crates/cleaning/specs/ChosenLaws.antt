@@ -49,7 +49,7 @@ Spaced S low high (x ∷ xs) = (low ≤ place_of S x) × Spaced S (place_of S x 
 
 -- Once the slots below n are walked through: no bit is set from there on, and those of the victims' entries are what the test says.
 pub record Told (test : Test) (area : List ℕ) (split : Split) (n : ℕ) (chosen : List ℕ) : Type 0 where
-  long : length chosen ≡ 256
-  clear : (q : ℕ) → n * split.size ≤ q → q < 65536 → is_chosen chosen q ≡ false
-  tells : (i : ℕ) → i < n → named split.victims i ≡ true → (x : Placed) → In x (placed_in (slot_layout area split.size i) i (slot_items area split.size i)) →
+  pub long : length chosen ≡ 256
+  pub clear : (q : ℕ) → n * split.size ≤ q → q < 65536 → is_chosen chosen q ≡ false
+  pub tells : (i : ℕ) → i < n → named split.victims i ≡ true → (x : Placed) → In x (placed_in (slot_layout area split.size i) i (slot_items area split.size i)) →
       is_chosen chosen (place_of split.size x) ≡ test (placed_header x) (place_of split.size x)

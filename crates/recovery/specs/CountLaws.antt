@@ -23,9 +23,9 @@ sum f (x ∷ l) = f x + sum f l
 
 -- a member, and what is left without it
 pub record Left {A : Type 0} (f : A → ℕ) (x : A) (l : List A) : Type 0 where
-  rest : List A
-  sums : sum f l ≡ f x + sum f rest
-  others : (y : A) → In y l → (y ≡ x) ⊎ In y rest
+  pub rest : List A
+  pub sums : sum f l ≡ f x + sum f rest
+  pub others : (y : A) → In y l → (y ≡ x) ⊎ In y rest
 
 pub left : {A : Type 0} (f : A → ℕ) (x : A) (l : List A) → In x l → Left f x l
 unfolding sum
