@@ -8,9 +8,9 @@ ghost use Rattle.cleaning.specs.Chosen.{choose_entry, choose_slot, choose_part, 
 use crate::Split;
 use crate::chosen::choose;
 use crate::marks::is_marked;
+use drive_log::slots::is_named;
 use index::Found;
 use index::search::search;
-use drive_log::slots::is_named;
 use segment::area::cut;
 use segment::entries::{behind, next};
 use segment::layout::{digest_size, head_size};

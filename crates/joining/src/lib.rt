@@ -7,7 +7,6 @@
 // of the new head (02, R-13).
 #![tactic(auto)]
 
-
 pub mod join;
 pub mod notes;
 pub mod pairs;

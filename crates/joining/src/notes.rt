@@ -7,9 +7,9 @@ ghost use Rattle.joining.specs.Notes.{note_with, elsewhere, note_newest, note_fo
 
 use crate::Sums;
 use cleaning::Split;
+use drive_log::slots::is_named;
 use index::Found;
 use index::search::search;
-use drive_log::slots::is_named;
 use segment::area::cut;
 use segment::entries::next;
 use segment::layout::{digest_size, head_size};

@@ -1,3 +1,2 @@
 // Theorems only: see specs/.
 #![tactic(auto)]
-

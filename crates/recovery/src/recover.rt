@@ -14,8 +14,6 @@ ghost use Rattle.recovery.specs.Recovering.{lent_first, checked_as, editions_bad
 use crate::count::count;
 use crate::format::geometry_bad;
 use crate::{Checked, Image};
-use index::Built;
-use index::build::build;
 use drive_log::HeadFound;
 use drive_log::head::{
     find_head, names_later_edition, names_no_digest, names_other_edition, shared_number,
@@ -23,6 +21,8 @@ use drive_log::head::{
 use drive_log::scan::end_of;
 use drive_log::survey::survey;
 use drive_log::versions::version_shared;
+use index::Built;
+use index::build::build;
 use record::range::{cells_good, map_good};
 use record::{Pending, Record, RecoverAnswer, Recovery, Refusal, blank};
 use segment::area::cut;

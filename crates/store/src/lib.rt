@@ -2,7 +2,6 @@
 // a relation of the crate model that holds for every input.
 #![tactic(auto)]
 
-
 // Makes an area of N slots of S bytes a fresh store of edition 1 or 2. Outside the promise about cuts. Refused with 1, it changes
 // nothing.
 pub use recovery::format::format;

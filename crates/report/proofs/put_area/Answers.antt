@@ -8,11 +8,10 @@ use Rattle.report.proofs.put_area.Goals as goal
 
 pub put_listing-requires : goal.put_listing-requires
 put_listing-requires c =
-    let bytes : Bytes c.args.area.now = λ i. omega (arith, c.type_inv.area i) in
-    (
-  recovered-ready _ _ _ _ _ _ refl c.recover_area-recovery.ensures c.in-Recovered.is (bytes),
-  c.requires,
-)
+    let bytes : Bytes c.args.area.now = λ i. omega (arith, c.type_inv.area i) in (
+      recovered-ready _ _ _ _ _ _ refl c.recover_area-recovery.ensures c.in-Recovered.is (bytes),
+      c.requires,
+    )
 
 pub returns-in-Refused : goal.returns-in-Refused
 returns-in-Refused c =

@@ -9,7 +9,7 @@ copy_words-requires c = omega arith
 
 pub returns : goal.returns
 returns c =
-    let a = c.args in 
+    let a = c.args in
     record {
       put = in_order a.words.now _ _ _ a.rec c.put_numbers.ensures c.encode_pending.ensures c.copy_words.ensures;
       long = omega arith;

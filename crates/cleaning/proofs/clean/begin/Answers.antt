@@ -15,7 +15,7 @@ write_digest-requires c = let r = c.requires.room in omega (arith, r.fits, r.lon
 
 pub copy_kept-count-requires : goal.copy_kept-count-requires
 copy_kept-count-requires c =
-    let r = c.requires.room in 
+    let r = c.requires.room in
     record {
       chosen_fits = r.shape;
       split_in_bounds = omega (arith, r.fits, r.long, c.digest_size.ensures);

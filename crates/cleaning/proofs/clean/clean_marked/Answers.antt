@@ -30,7 +30,7 @@ check_kept-requires c = c.measure-count.ensures.1
 
 pub begin-requires : goal.begin-requires
 begin-requires c =
-    let a = c.args in let passed = sym c.in-Passed.is ∙ c.check_kept.ensures in 
+    let a = c.args in let passed = sym c.in-Passed.is ∙ c.check_kept.ensures in
     record {
       clean_ready = ready a.into c.requires a.index.now _ c.measure-count.ensures.0 passed;
       room = room a.into c.requires a.index.now _ c.measure-count.ensures.0 passed _

@@ -11,7 +11,7 @@ returns-then-not-is_chosen c = copied_none _ _ _ (bytes_left _ _ _ _ c.args.head
 
 pub move_entry-requires : goal.move_entry-requires
 move_entry-requires c =
-    let a = c.args in let is = bytes_chosen a.into a.area.now a.chosen.now a.edition a.header a.place (sym c.is_chosen.ensures ∙ c.if-not-is_chosen.false) in 
+    let a = c.args in let is = bytes_chosen a.into a.area.now a.chosen.now a.edition a.header a.place (sym c.is_chosen.ensures ∙ c.if-not-is_chosen.false) in
     record {
       length_in_bounds = c.requires.length_in_bounds;
       edition_bound = c.requires.edition_bound;

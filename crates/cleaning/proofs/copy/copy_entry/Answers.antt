@@ -11,7 +11,7 @@ returns-then-not-is_kept c = copied_none _ _ _ (entry-dropped _ _ _ _ _ c.args.h
 
 pub move_entry-requires : goal.move_entry-requires
 move_entry-requires c =
-    let a = c.args in let is = entry_kept a.into a.area.now a.cells.now a.marks.now a.edition a.header a.place (sym c.is_kept.ensures ∙ c.if-not-is_kept.false) in 
+    let a = c.args in let is = entry_kept a.into a.area.now a.cells.now a.marks.now a.edition a.header a.place (sym c.is_kept.ensures ∙ c.if-not-is_kept.false) in
     record {
       length_in_bounds = c.requires.length_in_bounds;
       edition_bound = c.requires.edition_bound;

@@ -12,16 +12,16 @@ loop-i-init c = (omega arith, copied_none _ _ _ (chosen_none _ _ _ _))
 
 pub copy_victim-to-requires : goal.copy_victim-to-requires
 copy_victim-to-requires c =
-    let a = c.args in let l = c.loop-i in 
+    let a = c.args in let l = c.loop-i in
     record {
       chosen_fits = c.requires.chosen_fits;
       slot_lt_slots = c.loop-i-test.true;
       slot_in_bounds = omega (
-          arith,
-          l.invariant.1.behind,
-          copied-long l.invariant.1,
-          chosen-room _ a.area.now a.chosen.now a.split a.from (length a.work.now) l.i a.split.slots c.loop-i-test.true c.requires.split_in_bounds,
-        );
+        arith,
+        l.invariant.1.behind,
+        copied-long l.invariant.1,
+        chosen-room _ a.area.now a.chosen.now a.split a.from (length a.work.now) l.i a.split.slots c.loop-i-test.true c.requires.split_in_bounds,
+      );
     }
 
 pub overflow_add-i : goal.overflow_add-i

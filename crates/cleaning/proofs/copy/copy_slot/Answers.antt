@@ -46,15 +46,15 @@ overflow_add-slot c = omega (arith, place c)
 
 pub copy_chosen-to-requires : goal.copy_chosen-to-requires
 copy_chosen-to-requires c =
-    let a = c.args in let at = c.loop-header.at in let h = c.in-Entry.header in 
+    let a = c.args in let at = c.loop-header.at in let h = c.in-Entry.header in
     record {
       chosen_len = c.requires.chosen_fits.chosen-long;
       length_in_bounds = entry-lies c.requires.chosen_fits.slots _ c.requires.slot_lt_slots _ c.cut-s.ensures _ _ (met (goal.at.copy_chosen-to-requires c).In-Entry).fits;
       edition_bound = meets-long _ _ _ (met (goal.at.copy_chosen-to-requires c).In-Entry);
       place_in_bounds = copying-room c.loop-header.invariant c.requires.slot_in_bounds
-              (chosen_entry a.into a.area.now a.chosen.now a.edition h (a.slot * a.split.size + at))
-              (chosen_from a.edition a.into a.area.now a.chosen.now a.split.size a.slot c.cut-s.result.now (at + h.length))
-              (chosen-entry _ _ _ _ _ _ _ _ (met (goal.at.copy_chosen-to-requires c).In-Entry) (at + h.length) refl);
+          (chosen_entry a.into a.area.now a.chosen.now a.edition h (a.slot * a.split.size + at))
+          (chosen_from a.edition a.into a.area.now a.chosen.now a.split.size a.slot c.cut-s.result.now (at + h.length))
+          (chosen-entry _ _ _ _ _ _ _ _ (met (goal.at.copy_chosen-to-requires c).In-Entry) (at + h.length) refl);
     }
 
 pub behind-at-requires : goal.behind-at-requires

@@ -8,7 +8,7 @@ use Rattle.cleaning.proofs.copy.move_entry.Goals as goal
 
 pub put_entry-requires : goal.put_entry-requires
 put_entry-requires c =
-    let a = c.args in 
+    let a = c.args in
     record {
       length_in_bounds = c.requires.length_in_bounds;
       from_bound = c.requires.edition_bound;

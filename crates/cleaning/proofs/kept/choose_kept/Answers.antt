@@ -9,7 +9,7 @@ use Rattle.cleaning.proofs.kept.choose_kept.Goals.{After-found_kept}
 
 pub found_kept-requires : goal.found_kept-requires
 found_kept-requires c =
-    let a = c.args in 
+    let a = c.args in
     record {
       marks_len = c.requires.marks_len.0;
       place_bound = c.requires.place_bound;

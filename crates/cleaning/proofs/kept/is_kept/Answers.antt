@@ -4,7 +4,7 @@ use Rattle.cleaning.proofs.kept.is_kept.Goals as goal
 
 pub found_kept-requires : goal.found_kept-requires
 found_kept-requires c =
-    let a = c.args in 
+    let a = c.args in
     record {
       marks_len = c.requires.marks_len;
       place_bound = c.requires.place_bound;

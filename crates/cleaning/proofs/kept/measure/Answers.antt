@@ -13,7 +13,7 @@ loop-i-init c = (omega arith, sym (ap length (below_none _ _ _ _ _)), omega arit
 
 pub measure_victim-total-requires : goal.measure_victim-total-requires
 measure_victim-total-requires c =
-    let l = c.loop-i in let a = c.args in 
+    let l = c.loop-i in let a = c.args in
     record {
       split_fits = (
         c.requires.0,

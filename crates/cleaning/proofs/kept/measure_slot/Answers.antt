@@ -71,7 +71,7 @@ overflow_add-slot c = omega (arith, place (goal.at.overflow_add-slot c).In-Entry
 
 pub choose_kept-total-requires : goal.choose_kept-total-requires
 choose_kept-total-requires c =
-    let l = c.loop-header in 
+    let l = c.loop-header in
     record {
       marks_len = (c.requires.split_fits.0.marks-long, l.invariant.4 ∙ c.requires.split_fits.1);
       length_in_bounds = (lies (goal.at.choose_kept-total-requires c).In-Entry, area-short c.requires.split_fits.0.slots);

@@ -20,7 +20,7 @@ loop-i-init c = (omega arith, walk_none (sift_entry _ _ _) _ _ _ _)
 
 pub mark_part-requires : goal.mark_part-requires
 mark_part-requires c =
-    let same = ap length c.loop-i.invariant.1 ∙ length-sifted _ _ _ c.args.split _ _ _ refl in 
+    let same = ap length c.loop-i.invariant.1 ∙ length-sifted _ _ _ c.args.split _ _ _ refl in
     record {
       split_fits = (fits-again _ c.requires.0 same, c.requires.1);
       slot_lt_slots = c.loop-i-test.true;

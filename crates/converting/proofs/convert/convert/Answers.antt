@@ -37,7 +37,7 @@ found c = sym c.look_at.ensures ∙ c.in-Sound.is
 
 pub convert_log-requires : goal.convert_log-requires
 convert_log-requires c =
-    let a = c.args in 
+    let a = c.args in
     record {
       shape = (area-shape a.n a.s a.source.now (source_fits (goal.at.convert_log-requires c).Else-geometry_bad-2), sound-log a.n a.s a.source.now a.target.now (source_fits (goal.at.convert_log-requires c).Else-geometry_bad-2) (target_fits (goal.at.convert_log-requires c).Else-geometry_bad-2) _ _ _ _ (found (goal.at.convert_log-requires c).In-Sound));
       top_value = (sound-top a.n a.s a.source.now a.target.now (source_fits (goal.at.convert_log-requires c).Else-geometry_bad-2) (target_fits (goal.at.convert_log-requires c).Else-geometry_bad-2) _ _ _ _ (found (goal.at.convert_log-requires c).In-Sound), (area-shape a.n a.s a.target.now (target_fits (goal.at.convert_log-requires c).Else-geometry_bad-2)).whole);

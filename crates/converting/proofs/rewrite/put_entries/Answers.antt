@@ -13,7 +13,7 @@ met c = left-more c.loop-header.invariant.left _ c.next.ensures _ c.in-Entry.is
 
 pub put_entry-place-requires : goal.put_entry-place-requires
 put_entry-place-requires c =
-    let m = met (goal.at.put_entry-place-requires c).In-Entry in 
+    let m = met (goal.at.put_entry-place-requires c).In-Entry in
     record {
       length_in_bounds = m.fits;
       from_bound = m.long;

@@ -52,11 +52,11 @@ own c =
 
 pub put_slot-requires : goal.put_slot-requires
 put_slot-requires c =
-    let a = c.args in 
+    let a = c.args in
     record {
       part_value = ((own (goal.at.put_slot-requires c).After-cut).sound, digest-inside c.requires.shape.0 _ c.loop-i-test.true _ c.cut.ensures);
       part_len_bound = part-fits a.to (views_of a.source.now a.s) (named a.map) a.s _ (own (goal.at.put_slot-requires c).After-cut) _ c.requires.n_value c.loop-i-test.true
-            (sym c.is_named.ensures ∙ c.if-not-is_named.false);
+          (sym c.is_named.ensures ∙ c.if-not-is_named.false);
       s_in_bounds = room (goal.at.put_slot-requires c).In-loop-i;
     }
 

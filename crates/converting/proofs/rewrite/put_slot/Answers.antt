@@ -40,7 +40,7 @@ put c = rw c.digest_size.ensures at c.put_entries-end.ensures
 
 pub put_entries-end-requires : goal.put_entries-end-requires
 put_entries-end-requires c =
-    let a = c.args in 
+    let a = c.args in
     record {
       part_value = c.requires.part_value.0;
       part_in_bounds = rw c.digest_size.ensures (entries-room a.from a.to a.part.now a.s a.target.now a.start _ (wrote (goal.at.put_entries-end-requires c).After-write_digest) c.requires.part_len_bound c.requires.s_in_bounds);

@@ -8,7 +8,7 @@ use Rattle.drive_log.proofs.filter.mark.Goals as goal
 pub returns : goal.returns
 unfolding is_marked marked_with
 returns c =
-    let a = c.args in 
+    let a = c.args in
     record {
       was = c.has_slot.ensures;
       now = ap (set a.filter.now (a.version.0 % 512)) c.with_slot.ensures;

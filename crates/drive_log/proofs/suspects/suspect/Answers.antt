@@ -44,7 +44,7 @@ returns-then-suspect_shared c = suspect-told _ _ (held (goal.at.returns-then-sus
 
 pub insert-requires-2 : goal.insert-requires-2
 insert-requires-2 c =
-    let e = c.clear.ensures in let p = below (goal.at.insert-requires-2 c).Start in 
+    let e = c.clear.ensures in let p = below (goal.at.insert-requires-2 c).Start in
     record {
       sorted = empty-sorted _ e;
       between = empty-between _ e _ p;

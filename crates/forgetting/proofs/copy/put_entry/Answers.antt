@@ -19,7 +19,7 @@ returns-then-place-live c =
 
 pub copy_entry-requires : goal.copy_entry-requires
 copy_entry-requires c =
-    let a = c.args in 
+    let a = c.args in
     record {
       marks_len = c.requires.marks_len;
       length_in_bounds = c.requires.length_in_bounds;

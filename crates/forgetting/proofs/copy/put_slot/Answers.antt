@@ -41,16 +41,16 @@ overflow_add-slot c = omega (arith, place c)
 
 pub put_entry-to-requires : goal.put_entry-to-requires
 put_entry-to-requires c =
-    let a = c.args in let l = c.loop-header in let cut = c.cut-s in let h = c.in-Entry.header in 
+    let a = c.args in let l = c.loop-header in let cut = c.cut-s in let h = c.in-Entry.header in
     record {
       marks_len = c.requires.split_fits.marks-long;
       length_in_bounds = entry-lies c.requires.split_fits.slots _ c.requires.slot_lt_slots _ cut.ensures _ _ (met (goal.at.put_entry-to-requires c).In-Entry).fits;
       place_bound = place (goal.at.put_entry-to-requires c).In-Entry;
       edition_bound = meets-long _ _ _ (met (goal.at.put_entry-to-requires c).In-Entry);
       place_in_bounds = copying-room l.invariant c.requires.slot_in_bounds
-                (forgot_entry a.into a.area.now a.cells.now a.marks.now a.live a.edition h (a.slot * a.split.size + l.at))
-                (forgot_from a.edition a.into a.area.now a.cells.now a.marks.now a.live a.split.size a.slot cut.result.now (l.at + h.length))
-                (parts-entry _ (forgot_entry _ _ _ _ _) _ _ _ _ (met (goal.at.put_entry-to-requires c).In-Entry));
+          (forgot_entry a.into a.area.now a.cells.now a.marks.now a.live a.edition h (a.slot * a.split.size + l.at))
+          (forgot_from a.edition a.into a.area.now a.cells.now a.marks.now a.live a.split.size a.slot cut.result.now (l.at + h.length))
+          (parts-entry _ (forgot_entry _ _ _ _ _) _ _ _ _ (met (goal.at.put_entry-to-requires c).In-Entry));
     }
 
 pub overflow_add-at : goal.overflow_add-at

@@ -35,7 +35,7 @@ write_digest-requires c =
 
 pub put_slot-count-requires : goal.put_slot-count-requires
 put_slot-count-requires c =
-    let v = c.requires.victim_ready in 
+    let v = c.requires.victim_ready in
     record {
       split_fits = victim-fits v;
       slot_lt_slots = victim-below v;

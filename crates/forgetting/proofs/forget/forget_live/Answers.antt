@@ -19,7 +19,7 @@ own c = c.edition_of-edition.ensures ∙ ap layout_in c.cut.ensures
 
 pub fits_segment-fits-requires : goal.fits_segment-fits-requires
 fits_segment-fits-requires c =
-    let v = c.requires in 
+    let v = c.requires in
     record {
       split_fits = victim-fits v;
       slot_lt_slots = victim-below v;
@@ -27,7 +27,7 @@ fits_segment-fits-requires c =
 
 pub begin-requires : goal.begin-requires
 begin-requires c =
-    let passed = sym c.in-Passed.is ∙ c.check_full.ensures in 
+    let passed = sym c.in-Passed.is ∙ c.check_full.ensures in
     record {
       victim_ready = c.requires;
       number_left = full-number c.args.rec c.fits_segment-fits.result passed;

@@ -90,16 +90,14 @@ loop-header-preserved c =
 
 pub returns-in-End : goal.returns-in-End
 returns-in-End c =
-    let l = c.loop-header in
-    (
+    let l = c.loop-header in (
       measured-stop _ (forgot_entry _ _ _ _ _) _ _ _ _ _ _ l.invariant.0 (stops_end _ _ _ _ c.next.ensures c.in-End.is),
       omega (arith, l.invariant.1, l.invariant.2, long (goal.at.returns-in-End c).After-cut-s, c.requires.split_fits.slots.size-high),
     )
 
 pub returns-in-Damage : goal.returns-in-Damage
 returns-in-Damage c =
-    let l = c.loop-header in
-    (
+    let l = c.loop-header in (
       measured-stop _ (forgot_entry _ _ _ _ _) _ _ _ _ _ _ l.invariant.0 (stops-damage _ _ _ _ c.next.ensures c.in-Damage.is),
       omega (arith, l.invariant.1, l.invariant.2, long (goal.at.returns-in-Damage c).After-cut-s, c.requires.split_fits.slots.size-high),
     )

@@ -50,11 +50,11 @@ check_number-requires c =
 
 pub lay_entry-laying-requires : goal.lay_entry-laying-requires
 lay_entry-laying-requires c =
-    let a = c.args in 
+    let a = c.args in
     record {
       entry_ready = delete-ready _ a.tables a.rec a.area.now a.index.now a.work.now a.key (passed (goal.at.lay_entry-laying-requires c).In-Passed) (edition-roomy _);
       number_left = delete-number _ a.tables a.rec a.area.now a.index.now a.work.now a.key (passed (goal.at.lay_entry-laying-requires c).In-Passed)
-            (sym (full-test (goal.at.lay_entry-laying-requires c).After-no_room) ∙ c.if-no_room.false) _ c.head_size-length.ensures (sym c.in-Passed-check_number.is ∙ c.check_number.ensures);
+          (sym (full-test (goal.at.lay_entry-laying-requires c).After-no_room) ∙ c.if-no_room.false) _ c.head_size-length.ensures (sym c.in-Passed-check_number.is ∙ c.check_number.ensures);
       kind_value = rw c.tombstone_kind.ensures (tombstone-length _);
     }
 

@@ -27,15 +27,14 @@ returns-in_default c =
     c.index_listed.ensures c.in_default.is
 
 pub loop-j-preserved : goal.loop-j-preserved
-loop-j-preserved c =
-    (
-      omega arith,
-      long (goal.at.loop-j-preserved c).After-index_listed,
-      order-few _ _ _ _ _ _ _ _ c.loop-j.invariant.3 c.loop-j-test.true _ c.slot_of-slot.ensures.0 _ _
-          c.index_listed.ensures _ c.in-Keys.is c.loop-j.invariant.2,
-      order-next _ _ _ _ _ _ _ _ c.loop-j.invariant.3 c.loop-j-test.true _ c.slot_of-slot.ensures.0 _ _
-          c.index_listed.ensures _ c.in-Keys.is,
-    )
+loop-j-preserved c = (
+  omega arith,
+  long (goal.at.loop-j-preserved c).After-index_listed,
+  order-few _ _ _ _ _ _ _ _ c.loop-j.invariant.3 c.loop-j-test.true _ c.slot_of-slot.ensures.0 _ _
+      c.index_listed.ensures _ c.in-Keys.is c.loop-j.invariant.2,
+  order-next _ _ _ _ _ _ _ _ c.loop-j.invariant.3 c.loop-j-test.true _ c.slot_of-slot.ensures.0 _ _
+      c.index_listed.ensures _ c.in-Keys.is,
+)
 
 pub shape_of-cells : goal.shape_of-cells
 shape_of-cells c = c.loop-j.invariant.1

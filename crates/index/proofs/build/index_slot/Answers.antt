@@ -56,14 +56,13 @@ pub loop-header-smaller : goal.loop-header-smaller
 loop-header-smaller c = omega (arith, c.behind-at.ensures, fits (goal.at.loop-header-smaller c).In-Entry)
 
 pub loop-header-preserved : goal.loop-header-preserved
-loop-header-preserved c =
-    (
-      long (goal.at.loop-header-preserved c).After-index_entry,
-      slot-few _ _ _ _ _ _ _ _ c.loop-header.invariant.2 _ c.cut-s.ensures _ c.next.ensures _ c.in-Entry.is _ _ c.index_entry.ensures _
-          c.in-Keys.is c.loop-header.invariant.1,
-      slot_next _ _ _ _ _ _ _ _ c.loop-header.invariant.2 _ c.cut-s.ensures _ c.next.ensures _ c.in-Entry.is _ _ c.index_entry.ensures _
-          c.in-Keys.is _ c.behind-at.ensures,
-    )
+loop-header-preserved c = (
+  long (goal.at.loop-header-preserved c).After-index_entry,
+  slot-few _ _ _ _ _ _ _ _ c.loop-header.invariant.2 _ c.cut-s.ensures _ c.next.ensures _ c.in-Entry.is _ _ c.index_entry.ensures _
+      c.in-Keys.is c.loop-header.invariant.1,
+  slot_next _ _ _ _ _ _ _ _ c.loop-header.invariant.2 _ c.cut-s.ensures _ c.next.ensures _ c.in-Entry.is _ _ c.index_entry.ensures _
+      c.in-Keys.is _ c.behind-at.ensures,
+)
 
 pub shape_of-cells-in-End : goal.shape_of-cells-in-End
 shape_of-cells-in-End c = c.loop-header.invariant.0

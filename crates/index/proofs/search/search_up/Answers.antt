@@ -16,13 +16,12 @@ returns-then-cell_has c =
     turn_at _ _ _ _ _ c.loop-at.invariant.2 c.loop-at-test.true c.if-cell-eq0.false (sym c.cell_has.ensures ∙ c.if-cell_has.true)
 
 pub loop-at-preserved : goal.loop-at-preserved
-loop-at-preserved c =
-    (
-      omega arith,
-      omega arith,
-      turn-next _ _ _ _ _ c.loop-at.invariant.2 c.loop-at-test.true (omega arith) c.if-cell-eq0.false
-          (sym c.cell_has.ensures ∙ c.if-cell_has.false),
-    )
+loop-at-preserved c = (
+  omega arith,
+  omega arith,
+  turn-next _ _ _ _ _ c.loop-at.invariant.2 c.loop-at-test.true (omega arith) c.if-cell-eq0.false
+      (sym c.cell_has.ensures ∙ c.if-cell_has.false),
+)
 
 pub returns : goal.returns
 returns c = turn-full _ _ _ _ _ c.loop-at.invariant.2 c.loop-at-test.false

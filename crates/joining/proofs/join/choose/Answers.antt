@@ -14,7 +14,7 @@ note_all-requires c =
 
 pub weigh_all-requires : goal.weigh_all-requires
 weigh_all-requires c =
-    let made = c.note_all.ensures in 
+    let made = c.note_all.ensures in
     record {
       notes_fit = fits-noted _ c.requires made.0;
       tombstones_counted = made.2;

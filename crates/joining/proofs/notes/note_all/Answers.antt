@@ -10,7 +10,7 @@ loop-i-init c = (omega arith, notes-none _ _ _ _, c.requires.objects_counted, c.
 
 pub note_part-requires : goal.note_part-requires
 note_part-requires c =
-    let l = c.loop-i.invariant in 
+    let l = c.loop-i.invariant in
     record {
       notes_fit = fits-again _ c.requires.notes_fit (ap length l.1 ∙ length-below _ _ _ _ _);
       slot_lt_slots = c.loop-i-test.true;

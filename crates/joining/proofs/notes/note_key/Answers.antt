@@ -32,7 +32,7 @@ returns-then-newest-place c =
 
 pub note_cell-requires : goal.note_cell-requires
 note_cell-requires c =
-    let w = search-inside _ _ _ _ (is_at (goal.at.note_cell-requires c).In-At) in 
+    let w = search-inside _ _ _ _ (is_at (goal.at.note_cell-requires c).In-At) in
     record {
       newest_nonzero = w.taken;
       newest_bound = omega (arith, w.fits, c.requires.area_len_bound);

@@ -62,7 +62,7 @@ bounds-notes-slot c = omega (arith, place (goal.at.bounds-notes-slot c).In-Entry
 
 pub add_share-total-requires : goal.add_share-total-requires
 add_share-total-requires c =
-    let l = so_far (goal.at.add_share-total-requires c).At-loop-header in 
+    let l = so_far (goal.at.add_share-total-requires c).At-loop-header in
     record {
       shares_len = l.same_length ∙ c.requires.shares_len;
       base_bound = omega (arith, c.requires.slot_lt_slots, c.requires.slots_fit.slots-high);

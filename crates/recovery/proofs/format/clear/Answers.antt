@@ -20,7 +20,7 @@ overflow_mul-area c =
     omega (
       arith,
       slot-first c.args.n c.args.s c.loop-i.i (length c.loop-i.area) (omega arith)
-      (omega arith) (omega arith),
+          (omega arith) (omega arith),
     )
 
 pub overflow_add-i : goal.overflow_add-i

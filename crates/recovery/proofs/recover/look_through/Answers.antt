@@ -30,7 +30,7 @@ returns-then-not-passed c =
 
 pub version_shared-requires : goal.version_shared-requires
 version_shared-requires c =
-    let s = c.survey-passed.ensures in let e = not-false _ c.if-not-passed.false in 
+    let s = c.survey-passed.ensures in let e = not-false _ c.if-not-passed.false in
     record {
       shape = c.requires.0;
       n_value = s.undamaged e;

@@ -33,11 +33,10 @@ pub loop-i-smaller : goal.loop-i-smaller
 loop-i-smaller c = omega arith
 
 pub loop-i-preserved : goal.loop-i-preserved
-loop-i-preserved c =
-    (
-      omega arith,
-      walk-take _ _ _ _ _ _ c.loop-i.invariant.1 (sym c.is_named.ensures ∙ c.if-not-is_named.false) _ c.see_slot-seen.ensures,
-    )
+loop-i-preserved c = (
+  omega arith,
+  walk-take _ _ _ _ _ _ c.loop-i.invariant.1 (sym c.is_named.ensures ∙ c.if-not-is_named.false) _ c.see_slot-seen.ensures,
+)
 
 pub returns : goal.returns
 returns c =

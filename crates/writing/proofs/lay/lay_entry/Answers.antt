@@ -41,7 +41,7 @@ returns-then-fits_head c =
 
 pub lay_head-requires : goal.lay_head-requires
 lay_head-requires c =
-    let known = moved-known _ _ _ _ c.requires.kind_value _ c.kind_in.ensures in 
+    let known = moved-known _ _ _ _ c.requires.kind_value _ c.kind_in.ensures in
     record {
       entry_ready = c.requires.entry_ready;
       number_left = c.requires.number_left (sym (fit (goal.at.lay_head-requires c).After-fits_head) ∙ c.if-fits_head.false);

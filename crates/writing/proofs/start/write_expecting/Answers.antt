@@ -6,7 +6,7 @@ use Rattle.writing.proofs.start.write_expecting.Goals as goal
 
 pub lay_entry-laying-requires : goal.lay_entry-laying-requires
 lay_entry-laying-requires c =
-    let a = c.args in let passed = sym c.in-Passed.is ∙ c.check_write.ensures in 
+    let a = c.args in let passed = sym c.in-Passed.is ∙ c.check_write.ensures in
     record {
       entry_ready = write-ready _ (record { tables = a.tables; expected = a.expected }) a.rec a.area.now a.index.now a.work.now a.key a.value.now passed (edition-roomy _);
       number_left = write-number _ (record { tables = a.tables; expected = a.expected }) a.rec a.area.now a.index.now a.work.now a.key a.value.now passed;
