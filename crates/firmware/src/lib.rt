@@ -1,6 +1,5 @@
-// The step for a firmware that keeps its record in place. `step_kept` is the one function that takes a reference to a record,
-// and `step_held` the one that lends a record: the borrow checker covers neither, so each proof is a walk by hand, and all the
-// work is the by-value step's.
+// The step for a firmware that keeps its record in place. `step_kept` takes a reference to a record, and `step_held` lends one: both are thin
+// over the by-value step, which does all the work.
 #![tactic(auto)]
 
 ghost use Rattle.model.specs.Promises.{StepPromise};
@@ -22,7 +21,7 @@ pub fn step_kept(rec: &mut Record, area: &mut [u8], index: &mut [u32], work: &[u
     stepped.answer
 }
 
-// The same with plain parameters, for callers that want no walk: `step_kept` changes the record in place, in a local.
+// The same with plain parameters: `step_kept` changes the record in place, in a local.
 pub fn step_held(rec: Record, area: &mut [u8], index: &mut [u32], work: &[u8]) -> Stepped
     ensures { StepPromise rec.edition rec area.old area.new index.old index.new work.now result
         × StepTested rec.edition rec area.old area.new index.old index.new work.now result }
