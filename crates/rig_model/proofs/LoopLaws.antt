@@ -15,7 +15,8 @@ use Rattle.histories.specs.declared.book.Book.{Book}
 use Rattle.histories.specs.Numbered.{word, Taken}
 use Rattle.histories.specs.Book.{finished}
 use Rattle.rig_model.specs.Verdict.{wrong_at, operation_at, record_at, word_wrong}
-use Rattle.rig_model.specs.RunLaws.{Ready, Under, under-turn}
+use Rattle.rig_model.specs.RunLaws.{Ready, Under}
+use Rattle.rig_model.proofs.RunLaws.{under-turn}
 use Rattle.rig_model.proofs.RunLaws.{ready-record}
 use Rattle.rig_model.proofs.CheckLaws.{area-long}
 use Rattle.rig_model.specs.PlayLaws.{Plays}

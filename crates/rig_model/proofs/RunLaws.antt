@@ -293,3 +293,35 @@ module _ (o : Operation) (ty : Typed o) (area : List ℕ) (r : Record) (cells wo
 
         sub_self : (n : ℕ) → n - n ≡ 0
         sub_self n = omega arith
+
+-- ---- the loop over the stores
+
+pub under-turn : (before : List ℕ) (idle : Record) (o : Operation) (left : ℕ) (area : List ℕ) (r : Record) (cells work area' cells' : List ℕ) (a : Stepped)
+    → 0 < left → Under before idle o left area r cells work → StepPromise r.edition r area area' cells cells' work a
+    → Under before idle o (left - 1) area' a.rec cells' work
+under-turn before idle o left area r cells work area' cells' a h u p =
+    record {
+      most = omega (arith, u.most);
+      going = λ some.
+          subst (λ (x : ℕ). Going before idle o x area' a.rec cells' work) (one_more u.most)
+          (goes_on before idle o k area r cells work g area' cells' a p' (left - 2) (two-less u.most some));
+      ended = λ none_left. ends before idle o k area r cells work g area' cells' a p' (no_more u.most none_left);
+    }
+  where
+    k : ℕ
+    k = length (plan_at idle.edition before idle o) - left
+
+    g : Going before idle o k area r cells work
+    g = u.going h
+
+    p' : StepPromise idle.edition r area area' cells cells' work a
+    p' = subst (λ (L : Layout). StepPromise L r area area' cells cells' work a) (ap (λ (x : Record). x.edition) g.record-now) p
+
+    one_more : left ≤ length (plan_at idle.edition before idle o) → suc k ≡ length (plan_at idle.edition before idle o) - (left - 1)
+    one_more m = omega arith
+
+    two-less : left ≤ length (plan_at idle.edition before idle o) → 0 < left - 1 → length (plan_at idle.edition before idle o) - suc k ≡ suc (left - 2)
+    two-less m s = omega arith
+
+    no_more : left ≤ length (plan_at idle.edition before idle o) → left - 1 ≡ 0 → length (plan_at idle.edition before idle o) - suc k ≡ 0
+    no_more m s = omega arith
