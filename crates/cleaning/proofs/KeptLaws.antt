@@ -28,29 +28,54 @@ use Rattle.cleaning.specs.KeptLaws.{parts_from}
 
 module _ (cells marks : List ℕ) (tombstone : Bool) (place : ℕ) (found : Found) where
   module _ (i : ℕ) (e : found ≡ Found.At i) where
-    pub kept-older : (get_or cells i 0 ≡ place + 1 → ⊥) → false ≡ cell_kept cells marks tombstone place found
+    pub found-older : (get_or cells i 0 ≡ place + 1 → ⊥) → false ≡ cell_kept cells marks tombstone place found
     unfolding cell_kept
-    kept-older n =
+    found-older n =
         sym (ap (cell_kept cells marks tombstone place) e ∙ both-false-left (eqb (get_or cells i 0) (place + 1)) _ (ne_eqb (get_or cells i 0) (place + 1) n))
 
     module _ (own : get_or cells i 0 ≡ place + 1) where
-      pub kept-object : tombstone ≡ false → true ≡ cell_kept cells marks tombstone place found
+      pub found-object : tombstone ≡ false → true ≡ cell_kept cells marks tombstone place found
       unfolding cell_kept both either
-      kept-object t = rw (e, eq-eqb (get_or cells i 0) (place + 1) own, t)
+      found-object t = rw (e, eq-eqb (get_or cells i 0) (place + 1) own, t)
 
-      pub kept-tombstone : {b : Bool} → tombstone ≡ true → b ≡ is_marked marks i → b ≡ cell_kept cells marks tombstone place found
+      pub found-tombstone : {b : Bool} → tombstone ≡ true → b ≡ is_marked marks i → b ≡ cell_kept cells marks tombstone place found
       unfolding cell_kept both either
-      kept-tombstone t m = rw (e, eq-eqb (get_or cells i 0) (place + 1) own, t) m
+      found-tombstone t m = rw (e, eq-eqb (get_or cells i 0) (place + 1) own, t) m
 
-  pub kept_free : (i : ℕ) → found ≡ Found.Free i → false ≡ cell_kept cells marks tombstone place found
+  pub found_free : (i : ℕ) → found ≡ Found.Free i → false ≡ cell_kept cells marks tombstone place found
   unfolding cell_kept
-  kept_free i e = sym (ap (cell_kept cells marks tombstone place) e)
+  found_free i e = sym (ap (cell_kept cells marks tombstone place) e)
 
-  pub kept_full : found ≡ Found.Full → false ≡ cell_kept cells marks tombstone place found
+  pub found_full : found ≡ Found.Full → false ≡ cell_kept cells marks tombstone place found
   unfolding cell_kept
-  kept_full e = sym (ap (cell_kept cells marks tombstone place) e)
+  found_full e = sym (ap (cell_kept cells marks tombstone place) e)
 
--- by the search for its key
+-- by the search for its key, told apart by what it finds
+module _ (area cells marks : List ℕ) where
+  module _ (k : Key) (tombstone : Bool) (place i : ℕ) (e : search_for area cells k ≡ Found.At i) where
+    pub kept-older : (get_or cells i 0 ≡ place + 1 → ⊥) → false ≡ kept_at area cells marks k tombstone place
+    unfolding kept_at
+    kept-older n = found-older cells marks tombstone place (search_for area cells k) i e n
+
+    module _ (own : get_or cells i 0 ≡ place + 1) where
+      pub kept-object : tombstone ≡ false → true ≡ kept_at area cells marks k tombstone place
+      unfolding kept_at
+      kept-object t = found-object cells marks tombstone place (search_for area cells k) i e own t
+
+      pub kept-tombstone : {b : Bool} → tombstone ≡ true → b ≡ is_marked marks i → b ≡ kept_at area cells marks k tombstone place
+      unfolding kept_at
+      kept-tombstone t m = found-tombstone cells marks tombstone place (search_for area cells k) i e own t m
+
+  module _ (k : Key) (tombstone : Bool) (place : ℕ) where
+    pub kept_free : (i : ℕ) → search_for area cells k ≡ Found.Free i → false ≡ kept_at area cells marks k tombstone place
+    unfolding kept_at
+    kept_free i e = found_free cells marks tombstone place (search_for area cells k) i e
+
+    pub kept_full : search_for area cells k ≡ Found.Full → false ≡ kept_at area cells marks k tombstone place
+    unfolding kept_at
+    kept_full e = found_full cells marks tombstone place (search_for area cells k) e
+
+-- the same by what the search found
 module _ (area cells marks : List ℕ) (k : Key) (found : Found) (given : found ≡ search_for area cells k) where
   pub search-kept : {b : Bool} (tombstone : Bool) (place : ℕ) → b ≡ cell_kept cells marks tombstone place found →
       b ≡ kept_at area cells marks k tombstone place
