@@ -1,4 +1,5 @@
--- Laws of: What a start of a cleaning answers and leaves, by the bytes that it keeps; and that this is the promise of a start.
+-- What a start of a cleaning answers and leaves, by the bytes that it keeps; and that this is the promise of a start.
+-- What is proved of the definitions in `specs/Begun.antt`.
 use Prim.Native.Nat.{ℕ, ◌+◌, ◌*◌, ◌-◌, ◌≤◌}
 use Rattle.std.specs.Prelude.{◌≡◌, Bool, not, eqb, ltb}
 use Rattle.std.proofs.Math.Path.{refl, sym, ap}

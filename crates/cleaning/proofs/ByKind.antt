@@ -1,4 +1,5 @@
--- Laws of: The reader that goes by a branch for each kind, at each of its tests.
+-- The reader that goes by a branch for each kind, at each of its tests.
+-- What is proved of the definitions in `specs/ByKind.antt`.
 use Rattle.std.specs.Prelude.{ℕ, ◌+◌, ◌-◌, ◌≤◌, ◌<◌, ◌≡◌, Bool, not, List, eqb, get_or, take, drop}
 use Rattle.std.proofs.Math.Path.{refl}
 use Rattle.std.proofs.Common.{sym, ◌∙◌, ap, arith}

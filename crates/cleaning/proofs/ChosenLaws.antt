@@ -1,4 +1,5 @@
--- Laws of: The two walks at each test of the code, and that what is chosen is what is kept.
+-- The two walks at each test of the code, and that what is chosen is what is kept.
+-- What is proved of the definitions in `specs/ChosenLaws.antt`.
 use Prim.Native.Nat.{ℕ, zero, suc, ◌+◌, ◌*◌, ◌/◌, ◌%◌, ◌≤◌, ◌<◌}
 use Rattle.std.specs.Prelude.{◌≡◌, Bool, eqb, get_or, set, replicate}
 use Rattle.std.proofs.Math.Path.{refl, sym, ap, subst}

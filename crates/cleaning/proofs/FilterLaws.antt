@@ -1,4 +1,5 @@
--- Laws of: Marks made by a walk that goes by a filter agree with those of the whole walk on the cell of each key that the filter has.
+-- Marks made by a walk that goes by a filter agree with those of the whole walk on the cell of each key that the filter has.
+-- What is proved of the definitions in `specs/FilterLaws.antt`.
 use Prim.Native.Nat.{ℕ, zero, suc, ◌+◌, ◌-◌, ◌≤◌, ◌<◌}
 use Rattle.std.specs.Prelude.{◌≡◌, refl, Bool, eqb, leb, get_or, replicate}
 use Rattle.std.proofs.Math.Path.{sym, ap, subst}

@@ -1,4 +1,5 @@
--- Laws of: What is kept, at each test of the code.
+-- What is kept, at each test of the code.
+-- What is proved of the definitions in `specs/KeptLaws.antt`.
 use Rattle.std.specs.Prelude.{ℕ, ◌+◌, ◌*◌, ◌-◌, ◌≤◌, ◌≡◌, Bool, true, false, eqb, length, get_or, take, drop}
 use Rattle.std.proofs.Math.Path.{refl, sym, ap}
 use Rattle.std.proofs.Common.{◌∙◌, add-one, arith, length-append}

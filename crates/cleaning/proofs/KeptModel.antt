@@ -1,4 +1,5 @@
--- Laws of: On an undamaged store the bytes that the code gathers are those of the entries that the model keeps.
+-- On an undamaged store the bytes that the code gathers are those of the entries that the model keeps.
+-- What is proved of the definitions in `specs/KeptModel.antt`.
 use Prim.Native.Nat.{ℕ, zero, suc, ◌+◌, ◌*◌, ◌≤◌, ◌<◌}
 use Rattle.std.specs.Prelude.{◌≡◌, Bool, not, ltb, length, get_or, take, drop, replicate}
 use Rattle.std.proofs.Math.Path.{refl, sym, ap, subst}

@@ -1,4 +1,5 @@
--- Laws of: One bit for each cell of the index: the cells of the keys of which an object stands outside the victims.
+-- One bit for each cell of the index: the cells of the keys of which an object stands outside the victims.
+-- What is proved of the definitions in `specs/Marks.antt`.
 use Rattle.std.specs.Prelude.{ℕ, zero, suc, ◌/◌, ◌%◌, ◌<◌, ◌≡◌, Bool, List, [], ◌∷◌, length, get_or, set, replicate}
 use Rattle.std.proofs.Math.Path.{refl, ap}
 use Rattle.std.proofs.Common.{sym, ◌∙◌, arith, length-set, get_or-set_other}

@@ -1,4 +1,5 @@
--- Laws of: The walk outside the victims at each test of the code, and what a mark means.
+-- The walk outside the victims at each test of the code, and what a mark means.
+-- What is proved of the definitions in `specs/MarksLaws.antt`.
 use Prim.Native.Nat.{ℕ, zero, suc, ◌≤◌, ◌<◌}
 use Rattle.std.specs.Prelude.{◌≡◌, Bool, not}
 use Rattle.std.proofs.Math.Path.{refl, sym, ap}

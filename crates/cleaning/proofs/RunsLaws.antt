@@ -1,4 +1,6 @@
--- Laws of: Chosen entries that stand one behind the other: where the slot is of the new head's edition, what is copied of them is one stretch of
+-- Chosen entries that stand one behind the other: where the slot is of the new head's edition, what is copied of them is one stretch of
+-- the area.
+-- What is proved of the definitions in `specs/Runs.antt`.
 use Rattle.std.specs.Prelude.{ℕ, ◌+◌, ◌*◌, ◌-◌, ◌≤◌, ◌≡◌, true, false, List, [], ◌++◌, length, take, drop}
 use Rattle.std.proofs.Common.{sym, ◌∙◌, ap, subst, append_assoc, arith, take-add, drop-drop}
 use Rattle.std.proofs.lemmas.List.Edits.{sets}

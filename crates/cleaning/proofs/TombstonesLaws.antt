@@ -1,4 +1,5 @@
--- Laws of: Whether a victim holds a tombstone, as a total function of any area: only then the marks are made.
+-- Whether a victim holds a tombstone, as a total function of any area: only then the marks are made.
+-- What is proved of the definitions in `specs/Tombstones.antt`.
 use Rattle.std.specs.Prelude.{ℕ, ◌+◌, ◌≤◌, ◌<◌, ◌≡◌, refl, Bool, true, false}
 use Rattle.std.proofs.Math.Path.{sym, ap}
 use Rattle.std.proofs.Common.{◌∙◌, add-one, arith}

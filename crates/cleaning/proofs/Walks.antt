@@ -1,4 +1,6 @@
--- Laws of: A walk over the slots that a map names: what the header of each entry makes of some words, as a total function of any area.
+-- A walk over the slots that a map names: what the header of each entry makes of some words, as a total function of any area.
+-- Damage ends a segment.
+-- What is proved of the definitions in `specs/Walks.antt`.
 use Prim.Native.Nat.{ℕ, zero, suc, ◌+◌}
 use Rattle.std.specs.Prelude.{◌≡◌, Bool}
 use Rattle.std.proofs.Math.Path.{refl, sym, ap}

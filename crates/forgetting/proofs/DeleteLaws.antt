@@ -1,4 +1,5 @@
--- Laws of: From what the code decides and lays down to the promise of a delete.
+-- From what the code decides and lays down to the promise of a delete.
+-- What is proved of the definitions in `specs/DeleteLaws.antt`.
 use Rattle.std.specs.Prelude.{ℕ, ◌+◌, ◌*◌, ◌/◌, ◌^◌, ◌≤◌, ◌<◌, ◌≡◌, List, ◌++◌, replicate}
 use Rattle.std.proofs.Math.Path.{refl, sym, ap}
 use Rattle.std.proofs.Common.{◌∙◌, subst, zero-add, arith, length-append}

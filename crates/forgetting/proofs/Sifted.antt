@@ -1,4 +1,6 @@
--- Laws of: The marks that a delete that finds no room makes: by a filter with the key and with the keys of the victim's tombstones. What comes of the
+-- The marks that a delete that finds no room makes: by a filter with the key and with the keys of the victim's tombstones. What comes of the
+-- victim is the same by them as by those of the whole walk.
+-- What is proved of the definitions in `specs/Sifted.antt`.
 use Rattle.std.specs.Prelude.{ℕ, ◌<◌, ◌≡◌, true, List, eqb, length, replicate}
 use Rattle.std.proofs.Common.{ap}
 use Rattle.std.proofs.lemmas.List.{length-replicate}

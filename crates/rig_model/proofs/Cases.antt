@@ -1,4 +1,6 @@
--- Laws of: Cases of 02, R-14, numbered as in the tables of the model: a store after AaC, where no entry has the highest version told, and cuts on
+-- Cases of 02, R-14, numbered as in the tables of the model: a store after AaC, where no entry has the highest version told, and cuts on
+-- the way.
+-- What is proved of the definitions in `specs/Cases.antt`.
 use Rattle.std.specs.Prelude.{ℕ, ◌≡◌, refl, Bool, true, false, List, [], ◌∷◌, take, replicate}
 use Rattle.model.specs.Play.{opened}
 use Rattle.model.specs.Recovery.{recovered, if_none}

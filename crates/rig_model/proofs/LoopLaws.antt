@@ -1,4 +1,5 @@
--- Laws of: What the two loops of a run keep: the one over a letter's stores, and the one over a history's letters.
+-- What the two loops of a run keep: the one over a letter's stores, and the one over a history's letters.
+-- What is proved of the definitions in `specs/LoopLaws.antt`.
 use Rattle.std.specs.Prelude.{ℕ, ◌+◌, ◌-◌, ◌%◌, ◌<◌, ◌≡◌, refl, Bool, true, false, List, length}
 use Rattle.std.proofs.Common.{sym, ap, ◌∙◌, subst, length-set}
 use Rattle.std.proofs.Math.Option.{none}

@@ -1,4 +1,5 @@
--- Laws of: Laws of the loops that play a letter, a history and all histories.
+-- Laws of the loops that play a letter, a history and all histories.
+-- What is proved of the definitions in `specs/PlayLaws.antt`.
 use Prim.Native.Nat.{ℕ, zero, suc, ◌+◌, ◌-◌, ◌%◌, ◌^◌, ◌≤◌, ◌<◌}
 use Rattle.std.proofs.Math.Path.{◌≡◌, refl, ap}
 use Rattle.std.proofs.Common.{sym, ◌∙◌, subst, lit<}

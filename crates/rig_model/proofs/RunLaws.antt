@@ -1,4 +1,5 @@
--- Laws of: Laws of a run: what the promises of start and step give on a store that is idle and recovered, and on one whose operation is under way.
+-- Laws of a run: what the promises of start and step give on a store that is idle and recovered, and on one whose operation is under way.
+-- What is proved of the definitions in `specs/RunLaws.antt`.
 use Prim.Native.Nat.{ℕ, suc, ◌+◌, ◌-◌, ◌≤◌, ◌<◌}
 use Rattle.std.specs.Prelude.{◌≡◌, Bool, true, false, not, length}
 use Rattle.std.proofs.Math.Path.{refl, ap, subst, subst⁻¹}

@@ -1,4 +1,5 @@
--- Laws of: Every read, conversion, start and recovery can be made: for every input there is an answer that keeps the promise, as a total function.
+-- Every read, conversion, start and recovery can be made: for every input there is an answer that keeps the promise, as a total function.
+-- What is proved of the definitions in `specs/Answers.antt`.
 use Rattle.std.specs.Prelude.{ℕ, ◌≡◌, Bool, List, [], ◌∷◌, eqb, replicate}
 use Rattle.std.proofs.Math.Path.{refl, ap}
 use Rattle.std.proofs.Common.{sym, arith}

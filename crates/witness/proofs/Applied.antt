@@ -1,4 +1,5 @@
--- Laws of: Demand 3 speaks about the computed run: what recovery gives at its end, whichever order the slots are read in, and what its steps and
+-- Demand 3 speaks about the computed run: what recovery gives at its end, whichever order the slots are read in, and what its steps and
+-- reads answered.
 use Rattle.std.specs.Prelude.{ℕ, ◌-◌, ◌<◌, ◌≡◌, refl, true, false, List, [], ◌∷◌, ◌++◌, length, replicate}
 use Rattle.std.proofs.Common.{sym, ◌∙◌, ap, subst, arith}
 use Rattle.std.proofs.Math.Path.{subst⁻¹}
@@ -35,6 +36,7 @@ use Rattle.witness.specs.Answers.{recovered_cells}
 use Rattle.witness.proofs.AnswersLaws.{recover-made}
 use Rattle.witness.specs.Example.{computing, booking, nine, ten, ones, twos, threes, expecting, told, lent, started_on, started, stepped, recovered, read_event, value_event, reads_as, leaving, begins, writes, idles, half, meanwhile, fails, others, deletes, cleans, ends, before, area₀, events, two, foretold, scan_event, scans_as, convert_event, unheld}
 use Rattle.witness.proofs.Example.{bytes_of, nine-typed, ten-typed, all, run, cleaned}
+use Rattle.witness.proofs.AtEnd.{Left}
 use Rattle.witness.specs.Applied.{at_last, held_counts, left-counts, rest}
 
 pub formats : FormatPromise (number_of_layout edition1) 4 256 before area₀ FormatAnswer.Formatted
@@ -51,20 +53,6 @@ demanded = demand-3 edition1 4 256 before area₀ (bytes_of 1024 0xaa (omega ari
 sixteen : all.world.cells ≡ some 16
 unfolding computing
 sixteen = refl
-
--- What that gives a reader: recovery is accepted, the next version is 4, above the 3 that the delete and the 2 that the last read was
--- told, the deleted key answers 8 with an empty value, and the other key its version, kind and value.
-pub record Left (cells' : List ℕ) (r : Recovery) : Type 0 where
-  pub is-accepted : r.answer ≡ RecoverAnswer.Recovered
-  pub next-version : r.rec.next.0 ≡ 4
-  pub above-steps : 3 < r.rec.next.0
-  pub above-reads : 2 < r.rec.next.0
-  pub absent :
-      (a : Reading) → ReadPromise r.rec.edition r.rec all.world.area cells' all_tables nine a → a.answer ≡ ReadAnswer.Refused Refusal.Absent
-  pub no_value : (p : Part) → ValuePromise r.rec.edition r.rec all.world.area cells' all_tables nine p → part_of all.world.area p ≡ []
-  pub present :
-      (a : Reading) → ReadPromise r.rec.edition r.rec all.world.area cells' all_tables ten a → a.answer ≡ ReadAnswer.Present (record { 0 = 2 }) 2
-  pub value : (p : Part) → ValuePromise r.rec.edition r.rec all.world.area cells' all_tables ten p → part_of all.world.area p ≡ threes
 
 -- what the book says of the other key
 ten-answer : book_answer edition1 two ≡ ReadAnswer.Present (record { 0 = 2 }) 2

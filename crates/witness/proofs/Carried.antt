@@ -1,4 +1,5 @@
--- Laws of: What the computed run of edition 1 leaves, converted to edition 2 and back (02, R-12).
+-- What the computed run of edition 1 leaves, converted to edition 2 and back (02, R-12).
+-- What is proved of the definitions in `specs/Carried.antt`.
 use Rattle.std.specs.Prelude.{ℕ, ◌≡◌, refl, List, [], ◌∷◌, get_or, replicate, take}
 use Rattle.std.proofs.Math.Option.{none, some}
 use Rattle.segment.specs.Layout.{edition2}

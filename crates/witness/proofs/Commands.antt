@@ -1,4 +1,6 @@
--- Laws of: For every list of commands there is a run: a command is a call with its arguments, or a cut, and the answers are those of the
+-- For every list of commands there is a run: a command is a call with its arguments, or a cut, and the answers are those of the
+-- total functions.
+-- What is proved of the definitions in `specs/Commands.antt`.
 use Rattle.std.specs.Prelude.{ℕ, refl, length}
 use mathlib.Core.List.{List, [], ◌∷◌, ◌++◌}
 use Rattle.std.proofs.Math.Option.{Option, none, some}

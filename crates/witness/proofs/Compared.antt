@@ -1,4 +1,5 @@
--- Laws of: Two lists of events are held against each other as numbers, so that one test is computed over them; a law turns it into an equation.
+-- Two lists of events are held against each other as numbers, so that one test is computed over them; a law turns it into an equation.
+-- What is proved of the definitions in `specs/Compared.antt`.
 use Rattle.std.specs.Prelude.{ℕ, zero, suc, ◌≡◌, refl, List, [], ◌∷◌, length, get_or, drop}
 use Rattle.std.proofs.Common.{sym, ◌∙◌, ap, ap₂, arith}
 use Rattle.record.specs.declared.Expected.{Expected}

@@ -1,5 +1,6 @@
 pub mod AnswersLaws
 pub mod Applied
+pub mod AtEnd
 pub mod Carried
 pub mod Commands
 pub mod Compared

@@ -1,4 +1,7 @@
--- Laws of: Two runs, computed, that differ in media's value bytes alone. Servo uses tables up to 7, media tables from 8 on; a write of media's
+-- Two runs, computed, that differ in media's value bytes alone. Servo uses tables up to 7, media tables from 8 on; a write of media's
+-- outside its range is turned away, and so is servo where it asks for media's key; a write of media's is cut in its middle, and a
+-- cleaning follows. What isolation asks holds of them, and they are not the same: media reads what it wrote, and the images differ.
+-- What is proved of the definitions in `specs/Owners.antt`.
 use Rattle.std.specs.Prelude.{ℕ, ◌<◌, ◌≡◌, refl, List, [], ◌∷◌, ◌++◌, get_or, replicate}
 use Rattle.std.proofs.Common.{ap, subst, arith}
 use Rattle.segment.specs.Layout.{edition1}

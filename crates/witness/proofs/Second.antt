@@ -1,4 +1,7 @@
--- Laws of: One run of a store of edition 2 (02, R-11), computed: N 4, S 256, M 16; a write, a second write of the same key that is cut in its middle,
+-- One run of a store of edition 2 (02, R-11), computed: N 4, S 256, M 16; a write, a second write of the same key that is cut in its middle,
+-- a write of another key, a delete, a cleaning, recoveries, reads, reads by scan and a conversion. Entries and digests are four bytes longer than in
+-- edition 1, so every operation has that many more stores. Demand 3 speaks about it as it does about the run of edition 1.
+-- What is proved of the definitions in `specs/Second.antt`.
 use Rattle.std.specs.Prelude.{ℕ, ◌≡◌, refl, false, List, [], ◌∷◌, ◌++◌, length, get_or, replicate}
 use Rattle.std.proofs.Common.{◌∙◌, ap, subst, arith}
 use Rattle.std.proofs.Math.Path.{subst⁻¹}

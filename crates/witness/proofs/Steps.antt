@@ -1,4 +1,5 @@
--- Laws of: Every step can be made: what the code does for any record, area, index and work buffer, as a total function, keeps the promise.
+-- Every step can be made: what the code does for any record, area, index and work buffer, as a total function, keeps the promise.
+-- What is proved of the definitions in `specs/Steps.antt`.
 use Rattle.std.specs.Prelude.{ℕ, ◌+◌, ◌*◌, ◌-◌, ◌≡◌, Bool, ltb, length, get_or, set, replicate}
 use Rattle.std.proofs.Math.Path.{refl}
 use Rattle.std.proofs.Common.{◌∙◌, length-set}

@@ -1,4 +1,7 @@
--- Laws of: One run of a store that is carried over to edition 2 (02, R-13), computed: N 4, S 256, M 16, formatted in edition 1; a write, the switch, a
+-- One run of a store that is carried over to edition 2 (02, R-13), computed: N 4, S 256, M 16, formatted in edition 1; a write, the switch, a
+-- second write, which goes to the old head, a cut, which forgets the switch, a recovery, the switch again, one that is refused while a cleaning
+-- is pending, and the cleaning of the old head, whose new head is of edition 2. Demand 3 speaks about it.
+-- What is proved of the definitions in `specs/Switched.antt`.
 use Rattle.std.specs.Prelude.{ℕ, ◌≡◌, refl, true, List, [], ◌∷◌, ◌++◌, get_or, replicate}
 use Rattle.std.proofs.Common.{subst, arith}
 use Rattle.segment.specs.Choice.{pick}
