@@ -57,7 +57,8 @@ pub fn kurdavel_recover(
     ensures { RecoverCrossed slots size order.now area.now index.old index.new
         words.old words.new result }
 {
-    if words.len() < WORDS {
+    let short = words.len() < WORDS;
+    if short {
         return 4;
     }
     let found = recover(slots, size, order, area, index);

@@ -4,13 +4,13 @@ use Rattle.kurdavel.specs.Crossing.{words_after}
 use Rattle.kurdavel.specs.CrossingLaws.{recover-short, recover-crossed, never-recovered}
 use Rattle.kurdavel.proofs.kurdavel_recover.Goals as goal
 
-pub returns-then-words-lt-WORDS : goal.returns-then-words-lt-WORDS
-returns-then-words-lt-WORDS c = recover-short c.if-words-lt-WORDS.true
+pub returns-then-short : goal.returns-then-short
+returns-then-short c = recover-short c.if-short.true
 
 pub returns-in-Refused : goal.returns-in-Refused
 unfolding words_after
-returns-in-Refused c = recover-crossed c.if-words-lt-WORDS.false c.recover-found.ensures c.in-Refused.is c.number.ensures refl (λ e. never-recovered e)
+returns-in-Refused c = recover-crossed c.if-short.false c.recover-found.ensures c.in-Refused.is c.number.ensures refl (λ e. never-recovered e)
 
 pub returns-in-Recovered : goal.returns-in-Recovered
 unfolding words_after
-returns-in-Recovered c = recover-crossed c.if-words-lt-WORDS.false c.recover-found.ensures c.in-Recovered.is refl c.encode.ensures.put (λ e. c.encode.ensures.long)
+returns-in-Recovered c = recover-crossed c.if-short.false c.recover-found.ensures c.in-Recovered.is refl c.encode.ensures.put (λ e. c.encode.ensures.long)
