@@ -3,7 +3,7 @@ ghost use Rattle.std.specs.Prelude.{◌≤◌, ◌<◌, ◌≡◌, length};
 ghost use Rattle.segment.specs.Layout.{edition1, edition2, digest_size};
 ghost use Rattle.index.specs.Build.{entries_at};
 ghost use Rattle.cleaning.specs.Entries.{SplitFits};
-ghost use Rattle.cleaning.specs.Walks.{walk_items, walk_part};
+ghost use Rattle.cleaning.specs.Walks.{walk_items, walk_part, walk_slot};
 ghost use Rattle.cleaning.specs.Filter.{note_entry, note_victims};
 
 use crate::Split;
@@ -70,7 +70,20 @@ fn note_second(s: &[u8], filter: &mut [u32])
     }
 }
 
-// Those of a slot in its own edition, nothing where it is no victim.
+// Those of a slot, read in an edition.
+fn note_slot(edition: Edition, area: &[u8], filter: &mut [u32], split: Split, slot: usize)
+    requires split_fits { SplitFits split area.now filter.old }
+    requires slot_lt_slots { slot < split.slots }
+    ensures { filter.new ≡ walk_slot edition note_entry area.now split.size filter.old slot }
+{
+    let s = cut(split.size, area, slot);
+    match edition {
+        Edition::First => note_first(s, filter),
+        Edition::Second => note_second(s, filter),
+    }
+}
+
+// The same in the slot's own edition, nothing where it is no victim.
 fn note_part(area: &[u8], filter: &mut [u32], split: Split, slot: usize)
     requires split_fits { SplitFits split area.now filter.old }
     requires slot_lt_slots { slot < split.slots }
@@ -79,11 +92,8 @@ fn note_part(area: &[u8], filter: &mut [u32], split: Split, slot: usize)
     if !is_named(split.victims, slot) {
         return;
     }
-    let s = cut(split.size, area, slot);
-    match edition_of(s) {
-        Edition::First => note_first(s, filter),
-        Edition::Second => note_second(s, filter),
-    }
+    let edition = edition_of(cut(split.size, area, slot));
+    note_slot(edition, area, filter, split, slot);
 }
 
 // Those of all victims.
