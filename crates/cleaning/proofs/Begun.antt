@@ -1,7 +1,7 @@
 -- What a start of a cleaning answers and leaves, by the bytes that it keeps; and that this is the promise of a start.
 -- What is proved of the definitions in `specs/Begun.antt`.
-use Prim.Native.Nat.{ℕ, ◌+◌, ◌*◌, ◌-◌, ◌≤◌}
-use Rattle.std.specs.Prelude.{◌≡◌, Bool, not, eqb, ltb}
+use Prim.Native.Nat.{ℕ, ◌+◌, ◌*◌}
+use Rattle.std.specs.Prelude.{◌≡◌, Bool, not, eqb}
 use Rattle.std.proofs.Math.Path.{refl, sym, ap}
 use Rattle.std.proofs.Common.{◌∙◌, arith, length-append}
 use Rattle.std.proofs.Math.Bool.{true, false}
@@ -23,7 +23,7 @@ use Rattle.record.specs.Switch.{new_layout}
 use Rattle.record.specs.declared.Pending.TheVariants.{Clean}
 use Rattle.record.specs.declared.Refusal.{Refusal}
 use Rattle.record.specs.declared.Refusal.TheVariants.{BadRecord, WorkShort, Busy, BadVictims}
-use Rattle.record.specs.declared.Start.{Start}
+use Rattle.record.specs.Answered.{Start}
 use Rattle.record.specs.declared.Record.{Record}
 use Rattle.model.specs.Log.{Placed}
 use Rattle.model.specs.Causes.{when, first_cause}

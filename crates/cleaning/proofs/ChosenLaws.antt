@@ -1,17 +1,15 @@
 -- The two walks at each test of the code, and that what is chosen is what is kept.
 -- What is proved of the definitions in `specs/ChosenLaws.antt`.
-use Prim.Native.Nat.{ℕ, zero, suc, ◌+◌, ◌*◌, ◌/◌, ◌%◌, ◌≤◌, ◌<◌}
-use Rattle.std.specs.Prelude.{◌≡◌, Bool, eqb, get_or, set, replicate}
+use Prim.Native.Nat.{ℕ, zero, suc, ◌+◌, ◌*◌, ◌/◌, ◌≤◌, ◌<◌}
+use Rattle.std.specs.Prelude.{◌≡◌, Bool, replicate}
 use Rattle.std.proofs.Math.Path.{refl, sym, ap, subst}
-use Rattle.std.proofs.Common.{◌∙◌, add-one, length-set, get_or-set_same, get_or-set_other, eqb-true}
+use Rattle.std.proofs.Common.{◌∙◌, add-one}
 use Rattle.std.proofs.Math.Bool.{true, false}
 use mathlib.Core.List.Memᴰ
 use mathlib.Core.List.{List, [], ◌∷◌, ◌++◌}
 use Rattle.std.proofs.Math.Decide.{ℕ_discrete}
 use native.Mathlib.Omega.{arith}
 use Rattle.std.proofs.Math.ListN.{length, length-append, length-replicate}
-use Rattle.std.proofs.lemmas.List.{get_or-replicate}
-use Rattle.std.proofs.lemmas.Bool.{eqb-false}
 use Rattle.segment.specs.Choice.{pick}
 use Rattle.segment.proofs.Choice.{pick_true, pick-false}
 use Rattle.segment.specs.Layout.{Layout, digest_size}
@@ -19,19 +17,19 @@ use Rattle.segment.proofs.LayoutLaws.{width_low, width-high}
 use Rattle.segment.specs.Entry.{Found, entry, end, damage, entry_at, size_of}
 use Rattle.segment.proofs.EntryLaws.{found-fits}
 use Rattle.segment.specs.declared.Header.{Header}
-use Rattle.slot_map.specs.Bit.{bit, named, with_bit}
-use Rattle.slot_map.proofs.BitLaws.{bit-of-zero, bit-with-same, bit-with-other, set-named}
+use Rattle.slot_map.specs.Bit.{named}
 use Rattle.model.specs.Log.{Item, Placed, segment_of, place_of, placed_in}
 use Rattle.laws.specs.Members.{In, clash}
 use Rattle.laws.specs.Stores.{slots_apart}
 use Rattle.index.specs.Build.{entries_at}
 use Rattle.index.proofs.Entries.{entries-entry, entries-end, entries-damage}
+use Rattle.cleaning.proofs.BitsLaws.{length-bits, bit-own, bit-other, clear-bits}
 use Rattle.cleaning.specs.Entries.{SlotsFit, slot_layout, slot_items, placed_header}
 use Rattle.cleaning.specs.EntriesLaws.{Meets, entries-meets}
 use Rattle.cleaning.proofs.EntriesLaws.{slot-lies, slot-long, area-short}
 use Rattle.cleaning.specs.Kept.{kept_test, moved_bytes, kept_entry, kept_slot, kept_part, kept_below, kept_bytes}
 use Rattle.cleaning.proofs.KeptAlike.{gather-alike}
-use Rattle.cleaning.specs.Chosen.{chosen_word, is_chosen, chosen_with, Test, choose_entry, choose_placed, choose_slot, choose_part, choose_below, choose_victims, chosen_entry, chosen_slot, chosen_part, chosen_below, chosen_bytes}
+use Rattle.cleaning.specs.Chosen.{is_chosen, chosen_with, Test, choose_entry, choose_placed, choose_slot, choose_part, choose_below, choose_victims, chosen_entry, chosen_slot, chosen_part, chosen_below, chosen_bytes}
 use Rattle.cleaning.specs.declared.Split.{Split}
 use Rattle.cleaning.specs.ChosenLaws.{Spaced, Told}
 
@@ -39,52 +37,22 @@ use Rattle.cleaning.specs.ChosenLaws.{Spaced, Told}
 
 pub length-chosen : (chosen : List ℕ) (p : ℕ) → length (chosen_with chosen p) ≡ length chosen
 unfolding chosen_with
-length-chosen chosen p = length-set chosen (chosen_word (p / 8)) (with_bit (get_or chosen (chosen_word (p / 8)) 0) (p / 8 % 32))
-
--- of the eight bytes with number c
-module _ (chosen : List ℕ) (long : length chosen ≡ 256) (c : ℕ) where
-  abbrev word : ℕ
-  word = get_or chosen (chosen_word c) 0
-
-  abbrev made : List ℕ
-  made = set chosen (chosen_word c) (with_bit word (c % 32))
-
-  own-word : get_or made (chosen_word c) 0 ≡ with_bit word (c % 32)
-  own-word = get_or-set_same chosen (chosen_word c) (with_bit word (c % 32)) 0 (omega arith)
-
-  number-own : named (get_or made (chosen_word c) 0) (c % 32) ≡ true
-  number-own =
-      set-named (get_or made (chosen_word c) 0) (c % 32) (ap (λ (w : ℕ). bit w (c % 32)) own-word ∙ bit-with-same word (c % 32))
-
-  number-other : (d : ℕ) → c < 8192 → d < 8192 → (c ≡ d → ⊥) → named (get_or made (chosen_word d) 0) (d % 32) ≡ named (get_or chosen (chosen_word d) 0) (d % 32)
-  number-other d low high apart = go (eqb (chosen_word c) (chosen_word d)) refl
-    where
-      go : (t : Bool) → eqb (chosen_word c) (chosen_word d) ≡ t → named (get_or made (chosen_word d) 0) (d % 32) ≡ named (get_or chosen (chosen_word d) 0) (d % 32)
-      go true p =
-          let same : chosen_word c ≡ chosen_word d = eqb-true (chosen_word c) (chosen_word d) p in
-          ap (λ (k : ℕ). named (get_or made k 0) (d % 32)) (sym same)
-          ∙ ap (λ (w : ℕ). named w (d % 32)) own-word
-          ∙ ap (λ (b : ℕ). eqb b 1) (bit-with-other word (c % 32) (d % 32) (λ e. apart (omega arith)))
-          ∙ ap (λ (k : ℕ). named (get_or chosen k 0) (d % 32)) same
-      go false p =
-          ap (λ (w : ℕ). named w (d % 32))
-          (get_or-set_other chosen (chosen_word c) (chosen_word d) (with_bit word (c % 32)) 0 (λ e. eqb-false (chosen_word c) (chosen_word d) p (sym e)))
+length-chosen chosen p = length-bits _ chosen (p / 8)
 
 module _ (chosen : List ℕ) (long : length chosen ≡ 256) (p : ℕ) where
   choice-own : is_chosen (chosen_with chosen p) p ≡ true
   unfolding is_chosen chosen_with
-  choice-own = number-own chosen long (p / 8)
+  choice-own = bit-own _ (omega arith) chosen (omega (arith, long)) (p / 8)
 
   -- the bit of other eight bytes stays as it was
   choice-other : (q : ℕ) → p < 65536 → q < 65536 → (p / 8 ≡ q / 8 → ⊥) → is_chosen (chosen_with chosen p) q ≡ is_chosen chosen q
   unfolding is_chosen chosen_with
-  choice-other q low high apart = number-other chosen long (p / 8) (q / 8) (omega arith) (omega arith) apart
+  choice-other q low high apart =
+      bit-other _ (omega arith) chosen (omega (arith, long)) (p / 8) (q / 8) (omega arith) (omega arith) apart
 
 clear-chosen : (q : ℕ) → is_chosen (replicate 256 0) q ≡ false
 unfolding is_chosen
-clear-chosen q =
-    ap (λ (w : ℕ). named w (q / 8 % 32)) (get_or-replicate 256 (chosen_word (q / 8)) 0 0 (omega arith))
-    ∙ ap (λ (b : ℕ). eqb b 1) (bit-of-zero (q / 8 % 32))
+clear-chosen q = clear-bits _ (omega arith) 256 (omega arith) (q / 8)
 
 -- ---- the walk that chooses, at each test of the code
 

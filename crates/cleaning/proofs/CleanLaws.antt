@@ -1,6 +1,6 @@
 -- The start of a cleaning at each of its tests, in the code's order. Premises are the tests as the code has them, and what its
 -- callees told.
-use Rattle.std.specs.Prelude.{ℕ, ◌+◌, ◌≤◌, ◌<◌, ◌≡◌, Bool, true, false, not, eqb, replicate}
+use Rattle.std.specs.Prelude.{ℕ, ◌+◌, ◌≤◌, ◌<◌, ◌≡◌, Bool, true, false, not, eqb, replicate, Ok, Err}
 use Rattle.std.proofs.Common.{sym, ◌∙◌, subst, zero-add, arith}
 use Rattle.std.proofs.Math.Path.{ap}
 use Rattle.std.proofs.Math.Option.{none}
@@ -23,14 +23,13 @@ use Rattle.record.specs.Switch.{new_layout}
 use Rattle.record.specs.declared.Pending.TheVariants.{Clean}
 use Rattle.record.specs.declared.Refusal.{Refusal}
 use Rattle.record.specs.declared.Refusal.TheVariants.{BadRecord, BadVictims, KeptTooLong, NumbersSpent}
-use Rattle.record.specs.declared.Start.{Start}
+use Rattle.record.specs.Answered.{Start, Check}
 use Rattle.record.specs.declared.Record.{Record}
 use Rattle.model.specs.Causes.{Cause, first_cause}
 use Rattle.model.specs.Operations.{clean, new_slot, new_digest}
 use Rattle.model.specs.Refused.{Lengths, freely, record_bad, work_short, victims_bad}
 use Rattle.model.specs.Promises.{Begun, lent_lengths, StartPromise}
 use Rattle.laws.specs.CauseLaws.{cause-false, cause-rest, no-cause, first_some, first-none}
-use Rattle.starting.specs.declared.Check.{Check}
 use Rattle.starting.specs.Stores.{head_stores}
 use Rattle.starting.specs.Checks.{checked, idle_causes}
 use Rattle.starting.specs.CheckLaws.{refused, skipped, passed, checked-some, checked-none, record-bad, idle-refuses, idle-goes}
@@ -65,36 +64,36 @@ module _ (L : Layout) (r : Record) (l : Lengths) (victims : ℕ) {t : Bool} (e :
   abbrev FrontIs : Check → Type 0
   FrontIs a = a ≡ checked (first_cause (front_causes L r l victims))
 
-  pub front-bad : not t ≡ true → FrontIs (Check.Refused BadRecord)
+  pub front-bad : not t ≡ true → FrontIs (Err BadRecord)
   unfolding front_causes
   front-bad h = refused _ _ (record-bad L r l e h)
 
   module _ (fits : not t ≡ false) where
-    pub front-idle : (c : Refusal) → Check.Refused c ≡ checked (first_cause (idle_causes r l.work)) → FrontIs (Check.Refused c)
+    pub front-idle : (c : Refusal) → Err c ≡ checked (first_cause (idle_causes r l.work)) → FrontIs (Err c)
     unfolding front_causes
     front-idle c h = idle-refuses L r l e fits _ c h
 
-    module _ (idle : Check.Passed ≡ checked (first_cause (idle_causes r l.work))) (v : Bool) (d : v ≡ victims_bad r victims) where
-      pub front-victims : v ≡ true → FrontIs (Check.Refused BadVictims)
+    module _ (idle : Ok tt ≡ checked (first_cause (idle_causes r l.work))) (v : Bool) (d : v ≡ victims_bad r victims) where
+      pub front-victims : v ≡ true → FrontIs (Err BadVictims)
       unfolding front_causes
       front-victims h = idle-goes L r l e fits _ idle (refused _ _ (sym d ∙ h))
 
-      pub front-passed : v ≡ false → FrontIs Check.Passed
+      pub front-passed : v ≡ false → FrontIs (Ok tt)
       unfolding front_causes
       front-passed h = idle-goes L r l e fits _ idle (skipped _ _ (sym d ∙ h) passed)
 
 -- n is the length of what is kept, in the new head's edition W
 module _ (W : Layout) (r : Record) (n : ℕ) where
-  pub kept-long : r.size < digest_size W + n → Check.Refused KeptTooLong ≡ checked (first_cause (kept_causes W r n))
+  pub kept-long : r.size < digest_size W + n → Err KeptTooLong ≡ checked (first_cause (kept_causes W r n))
   unfolding kept_causes
   kept-long h = refused _ _ (lt-ltb r.size (digest_size W + n) h)
 
   module _ (fits : digest_size W + n ≤ r.size) where
-    pub kept-spent : r.digest.0 ≡ number_limit → Check.Refused NumbersSpent ≡ checked (first_cause (kept_causes W r n))
+    pub kept-spent : r.digest.0 ≡ number_limit → Err NumbersSpent ≡ checked (first_cause (kept_causes W r n))
     unfolding kept_causes
     kept-spent h = skipped _ _ (le-ltb r.size (digest_size W + n) fits) (refused _ _ (eq-eqb r.digest.0 number_limit h))
 
-    pub kept-passed : (r.digest.0 ≡ number_limit → ⊥) → Check.Passed ≡ checked (first_cause (kept_causes W r n))
+    pub kept-passed : (r.digest.0 ≡ number_limit → ⊥) → Ok tt ≡ checked (first_cause (kept_causes W r n))
     unfolding kept_causes
     kept-passed h = skipped _ _ (le-ltb r.size (digest_size W + n) fits) (skipped _ _ (ne_eqb r.digest.0 number_limit h) passed)
 
@@ -103,7 +102,7 @@ module _ (W : Layout) (r : Record) (n : ℕ) where
     pub fits : digest_size W + n ≤ r.size
     pub number-left : NumberLeft r
 
-  pub passed-kept : Check.Passed ≡ checked (first_cause (kept_causes W r n)) → KeptPassed
+  pub passed-kept : Ok tt ≡ checked (first_cause (kept_causes W r n)) → KeptPassed
   unfolding kept_causes
   passed-kept e =
       let c = checked-none (first_cause (kept_causes W r n)) e in
@@ -118,21 +117,21 @@ module _ (W : Layout) (r : Record) (victims : ℕ) (work bytes : List ℕ) (n : 
   here : (a : Check) → a ≡ checked (first_cause (kept_causes W r n)) → a ≡ checked (first_cause (kept_causes W r (length bytes)))
   here a e = e ∙ ap (λ (k : ℕ). checked (first_cause (kept_causes W r k))) m
 
-  pub marked_refused : (c : Refusal) → Check.Refused c ≡ checked (first_cause (kept_causes W r n)) → (a : Start) → a ≡ refused_start r c →
+  pub marked_refused : (c : Refusal) → Err c ≡ checked (first_cause (kept_causes W r n)) → (a : Start) → a ≡ refused_start r c →
       record { start = a; work = work } ≡ marked_with W r victims work bytes
   unfolding begun_with marked_with
   marked_refused c e a is =
       ap (λ (s : Start). record { start = s; work = work }) is
-      ∙ ap (begun_with W r victims work bytes) (sym (checked-some _ c (here (Check.Refused c) e)))
+      ∙ ap (begun_with W r victims work bytes) (sym (checked-some _ c (here (Err c) e)))
 
-  pub marked-begun : {b : Begun} → Check.Passed ≡ checked (first_cause (kept_causes W r n)) → b ≡ begun_with W r victims work bytes none →
+  pub marked-begun : {b : Begun} → Ok tt ≡ checked (first_cause (kept_causes W r n)) → b ≡ begun_with W r victims work bytes none →
       b ≡ marked_with W r victims work bytes
   unfolding marked_with
-  marked-begun e h = h ∙ ap (begun_with W r victims work bytes) (sym (checked-none _ (here Check.Passed e)))
+  marked-begun e h = h ∙ ap (begun_with W r victims work bytes) (sym (checked-none _ (here (Ok tt) e)))
 
 -- what the code may rely on then: what is chosen is what is kept
 module _ (W : Layout) {L : Layout} {r : Record} {victims : ℕ} {split : Split} {area marks work : List ℕ} (f : CleanFits L r victims split area marks work)
-    (cells : List ℕ) (n : ℕ) (m : n ≡ length (kept_bytes W area cells marks split)) (e : Check.Passed ≡ checked (first_cause (kept_causes W r n))) where
+    (cells : List ℕ) (n : ℕ) (m : n ≡ length (kept_bytes W area cells marks split)) (e : Ok tt ≡ checked (first_cause (kept_causes W r n))) where
   pub ready : CleanReady L r victims
   ready =
       record {
@@ -177,7 +176,7 @@ module _ (L : Layout) (area cells : List ℕ) (r : Record) (victims : ℕ) (work
   unfolding front_causes idle_causes
   first-passed e = let t = no-cause front e in record { record-good = t.0; work-long = t.1.0; victims-good = t.1.1.1.0 }
 
-  pub front-refused : Bytes area → (c : Refusal) → Check.Refused c ≡ checked (first_cause front) → (a : Start) → a ≡ refused_start r c →
+  pub front-refused : Bytes area → (c : Refusal) → Err c ≡ checked (first_cause front) → (a : Start) → a ≡ refused_start r c →
       StartPromise L freely (clean victims) r area cells work work a
   unfolding begun_with causes_with front_causes kept_causes idle_causes
   front-refused bytes c e a is =
@@ -188,7 +187,7 @@ module _ (L : Layout) (area cells : List ℕ) (r : Record) (victims : ℕ) (work
       (first_some front (kept_causes (new_layout r) r (length (kept_bytes (new_layout r) area cells (marks_of area cells (split_of r victims)) (split_of r victims)))) c
       (checked-some (first_cause front) c e))))
 
-  module _ (e : Check.Passed ≡ checked (first_cause front)) where
+  module _ (e : Ok tt ≡ checked (first_cause front)) where
     in-range : Lent L r (length area) (length cells)
     in-range = lent L r (length area) (length cells) (not-false _ (first-passed (checked-none (first_cause front) e)).record-good)
 

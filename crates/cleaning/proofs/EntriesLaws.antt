@@ -1,6 +1,6 @@
 -- The entries of a segment at each test of the code. Premises are the tests as the code has them, and what its callees give.
 -- What is proved of the definitions in `specs/EntriesLaws.antt`.
-use Rattle.std.specs.Prelude.{ℕ, ◌+◌, ◌*◌, ◌≤◌, ◌<◌, ◌≡◌, true, List, [], ◌∷◌, length}
+use Rattle.std.specs.Prelude.{ℕ, ◌+◌, ◌*◌, ◌≤◌, ◌<◌, ◌≡◌, true, List, [], length}
 use Rattle.std.proofs.Common.{sym, ◌∙◌, ap, mul-le-mul, arith}
 use Rattle.segment.specs.Layout.{Layout, entry_size}
 use Rattle.segment.specs.Entry.{entry_at}

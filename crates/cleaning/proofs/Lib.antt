@@ -1,4 +1,5 @@
 pub mod Begun
+pub mod BitsLaws
 pub mod ByKind
 pub mod ChosenLaws
 pub mod CleanLaws

@@ -1,23 +1,20 @@
 -- What a start of a cleaning answers and leaves, by the bytes that it keeps; and that this is the promise of a start.
-use Prim.Native.Nat.{ℕ, ◌+◌, ◌*◌, ◌-◌, ◌≤◌}
-use Rattle.std.specs.Prelude.{◌≡◌, Bool, not, eqb, ltb}
-use Rattle.std.proofs.Math.Path.{refl, sym, ap}
-use Rattle.std.proofs.Common.{◌∙◌, arith, length-append}
-use Rattle.std.proofs.Math.Bool.{true, false}
+use Prim.Native.Nat.{ℕ, ◌+◌, ◌≤◌}
+use Rattle.std.specs.Prelude.{◌≡◌, ltb}
+use Rattle.std.proofs.Math.Bool.{true}
 use Rattle.std.proofs.Math.Option.{Option, none, some}
 use mathlib.Core.List.{List, [], ◌∷◌, ◌++◌}
 use Rattle.std.proofs.Math.ListN.{length}
-use Rattle.std.proofs.Math.Seq.{sets, length-sets}
-use Rattle.std.proofs.lemmas.Bool.{not-false}
+use Rattle.std.proofs.Math.Seq.{sets}
 use Rattle.segment.specs.Layout.{Layout, digest_size}
 use Rattle.segment.specs.Digest.{encoded_digest}
 use Rattle.slot_map.specs.Bit.{within}
-use Rattle.record.specs.RangeLaws.{Lent, lent}
+use Rattle.record.specs.RangeLaws.{Lent}
 use Rattle.record.specs.Switch.{new_layout}
 use Rattle.record.specs.declared.Pending.TheVariants.{Clean}
 use Rattle.record.specs.declared.Refusal.{Refusal}
 use Rattle.record.specs.declared.Refusal.TheVariants.{BadRecord, BadVictims, KeptTooLong, NumbersSpent}
-use Rattle.record.specs.declared.Start.{Start}
+use Rattle.record.specs.Answered.{Start}
 use Rattle.record.specs.declared.Record.{Record}
 use Rattle.model.specs.Causes.{Cause, when, first_cause}
 use Rattle.model.specs.Operations.{new_slot, new_digest}

@@ -1,14 +1,10 @@
 -- The reader that goes by a branch for each kind, at each of its tests.
-use Rattle.std.specs.Prelude.{ℕ, ◌+◌, ◌-◌, ◌≤◌, ◌<◌, ◌≡◌, Bool, not, List, eqb, get_or, take, drop}
-use Rattle.std.proofs.Math.Path.{refl}
-use Rattle.std.proofs.Common.{sym, ◌∙◌, ap, arith}
-use Rattle.std.proofs.Math.Bool.{true, false}
+use Rattle.std.specs.Prelude.{ℕ, ◌<◌, ◌≡◌, Bool, not, List, eqb, get_or}
+use Rattle.std.proofs.Math.Bool.{true}
 use Rattle.std.proofs.Math.ListN.{length}
-use borrow.Author.Tests.{eqb-true, eqb-false, ne_eqb, not-true}
 use Rattle.segment.specs.Choice.{pick, both}
 use Rattle.segment.specs.Layout.{Layout, other_layout, is_tombstone_kind}
 use Rattle.segment.specs.Kinds.{kind_size}
-use Rattle.segment.specs.declared.Next.TheVariants as N
 
 -- Whether a kind is one of this layout, and so none of the other, of entries that are n bytes long, and the tombstone's where t says so.
 unfoldable pub kind_test : Layout → ℕ → ℕ → Bool → Bool

@@ -1,11 +1,12 @@
 -- The entries that are kept, one bit for each eight bytes of the area: the walk that measures them notes them, and the walk that copies them
 -- goes by the bits. No two entries start within the length of the shortest.
-use Rattle.std.specs.Prelude.{ℕ, zero, suc, ◌/◌, ◌%◌, ◌≡◌, Bool, List, [], ◌∷◌, ◌++◌, length, get_or, set}
+use Rattle.std.specs.Prelude.{ℕ, zero, suc, ◌/◌, ◌≡◌, Bool, List, [], ◌∷◌, ◌++◌, length}
 use Rattle.segment.specs.Choice.{pick}
 use Rattle.segment.specs.Layout.{Layout}
 use Rattle.segment.specs.declared.Header.{Header}
-use Rattle.slot_map.specs.Bit.{named, with_bit}
+use Rattle.slot_map.specs.Bit.{named}
 use Rattle.model.specs.Log.{Placed, place_of, placed_in}
+use Rattle.cleaning.specs.Bits.{has_bit, bits_with}
 use Rattle.cleaning.specs.Entries.{SlotsFit, items_in, slot_layout, placed_header}
 use Rattle.cleaning.specs.Kept.{moved_bytes, gather_by}
 use Rattle.cleaning.specs.declared.Split.{Split}
@@ -17,16 +18,12 @@ pub record ChosenFits (split : Split) (area chosen : List ℕ) : Type 0 where
 
 -- ---- the bit of a place
 
--- the word that has the bit: 256 words for 65,536 bytes
-abbrev pub chosen_word : ℕ → ℕ
-chosen_word n = n / 32 % 256
-
+-- a bit for each eight bytes: 256 words for 65,536 bytes
 unfoldable pub is_chosen : List ℕ → ℕ → Bool
-is_chosen chosen place = named (get_or chosen (chosen_word (place / 8)) 0) (place / 8 % 32)
+is_chosen chosen place = has_bit 256 chosen (place / 8)
 
 unfoldable pub chosen_with : List ℕ → ℕ → List ℕ
-chosen_with chosen place =
-    set chosen (chosen_word (place / 8)) (with_bit (get_or chosen (chosen_word (place / 8)) 0) (place / 8 % 32))
+chosen_with chosen place = bits_with 256 chosen (place / 8)
 
 -- ---- the walk that chooses, by a test of a header and a place
 

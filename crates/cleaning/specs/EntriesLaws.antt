@@ -1,11 +1,10 @@
 -- The entries of a segment at each test of the code. Premises are the tests as the code has them, and what its callees give.
-use Rattle.std.specs.Prelude.{ℕ, ◌+◌, ◌*◌, ◌≤◌, ◌<◌, ◌≡◌, true, List, [], ◌∷◌, length}
-use Rattle.std.proofs.Common.{sym, ◌∙◌, ap, mul-le-mul, arith}
+use Rattle.std.specs.Prelude.{ℕ, ◌+◌, ◌≤◌, ◌≡◌, List, ◌∷◌, length}
+use Rattle.std.proofs.Common.{◌∙◌, ap}
 use Rattle.segment.specs.Layout.{Layout}
 use Rattle.segment.specs.Entry.{Entry, entry, entry_at}
 use Rattle.segment.specs.Entries.{header_of}
 use Rattle.segment.specs.declared.Header.{Header}
-use Rattle.segment.specs.declared.Next.TheVariants as N
 use Rattle.laws.specs.Scans.{item_at}
 use Rattle.index.specs.Build.{entries_at}
 use Rattle.index.proofs.Entries.{entries-entry}

@@ -1,10 +1,10 @@
 -- A filter of keys, of one bit for each of 4,096 values of a key: it may have a key that it was not given, and has each that it was. The
 -- keys of the victims' tombstones are put into it, and only for keys that it has a walk outside the victims searches the index.
-use Rattle.std.specs.Prelude.{ℕ, ◌*◌, ◌/◌, ◌<◌, Bool, List, replicate}
-use Rattle.std.proofs.Common.{arith}
+use Rattle.std.specs.Prelude.{ℕ, ◌*◌, ◌/◌, Bool, List, replicate}
 use Rattle.std.specs.Int.Bits.{bit_xor}
 use Rattle.word.specs.Fnv.{wrapped}
 use Rattle.segment.specs.Choice.{pick}
+use Rattle.segment.specs.Layout.{Layout, edition1, edition2}
 use Rattle.segment.specs.declared.Header.{Header}
 use Rattle.segment.specs.declared.Key.{Key}
 use Rattle.index.specs.Search.{search_for}
@@ -24,6 +24,10 @@ abbrev pub filter_with : List ℕ → Key → List ℕ
 filter_with filter k = marked_with filter (spread k)
 
 -- ---- the keys of the victims' tombstones
+
+-- the edition of a walk that is made for one alone
+abbrev pub edition_as : Bool → Layout
+edition_as second = pick second edition2 edition1
 
 unfoldable pub note_entry : List ℕ → Header → List ℕ
 note_entry filter h = pick h.tombstone (filter_with filter h.key) filter

@@ -1,15 +1,9 @@
 -- Marks made by a walk that goes by a filter agree with those of the whole walk on the cell of each key that the filter has.
-use Prim.Native.Nat.{ℕ, zero, suc, ◌+◌, ◌-◌, ◌≤◌, ◌<◌}
-use Rattle.std.specs.Prelude.{◌≡◌, refl, Bool, eqb, leb, get_or, replicate}
-use Rattle.std.proofs.Math.Path.{sym, ap, subst}
-use Rattle.std.proofs.Common.{◌∙◌, arith}
-use Rattle.std.proofs.Math.Bool.{true, false}
-use mathlib.Core.List.Memᴰ
-use mathlib.Core.List.{List, [], ◌∷◌}
-use Rattle.std.proofs.Math.Decide.{ℕ_discrete, dec_lt}
+use Prim.Native.Nat.{ℕ}
+use Rattle.std.specs.Prelude.{◌≡◌}
+use Rattle.std.proofs.Math.Bool.{true}
+use mathlib.Core.List.{List}
 use Rattle.std.proofs.Math.ListN.{length}
-use Rattle.std.proofs.lemmas.List.{length-replicate}
-use borrow.Author.Tests.{eqb-true}
 use Rattle.segment.specs.declared.Key.{Key}
 use Rattle.cleaning.specs.Marks.{is_marked}
 use Rattle.cleaning.specs.Filter.{filter_has}

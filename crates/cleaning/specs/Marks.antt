@@ -1,38 +1,26 @@
 -- One bit for each cell of the index: the cells of the keys of which an object stands outside the victims.
-use Rattle.std.specs.Prelude.{ℕ, zero, suc, ◌/◌, ◌%◌, ◌<◌, ◌≡◌, Bool, List, [], ◌∷◌, length, get_or, set, replicate}
-use Rattle.std.proofs.Math.Path.{refl, ap}
-use Rattle.std.proofs.Common.{sym, ◌∙◌, arith, length-set, get_or-set_other}
-use Rattle.std.proofs.Math.Bool.{true, false}
-use Rattle.std.proofs.Math.Dec.{eqb}
-use Rattle.std.proofs.lemmas.List.{get_or-replicate}
-use Rattle.std.proofs.Math.Seq.{get_or-set_same}
-use borrow.Author.Tests.{eqb-true, eqb-false}
+use Rattle.std.specs.Prelude.{ℕ, zero, suc, Bool, List, [], ◌∷◌, replicate}
 use Rattle.segment.specs.Choice.{pick}
 use Rattle.segment.specs.Layout.{Layout}
 use Rattle.segment.specs.Entries.{header_of}
 use Rattle.segment.specs.declared.Header.{Header}
-use Rattle.slot_map.specs.Bit.{named, with_bit}
+use Rattle.slot_map.specs.Bit.{named}
 use Rattle.model.specs.Log.{Item}
 use Rattle.index.specs.Search.{search_for}
 use Rattle.index.specs.declared.Found.{Found}
+use Rattle.cleaning.specs.Bits.{has_bit, bits_with}
 use Rattle.cleaning.specs.Entries.{slot_layout, slot_items}
 use Rattle.cleaning.specs.Tombstones.{any_tombstone}
 use Rattle.cleaning.specs.declared.Split.{Split}
 
 -- ---- the mark of a cell
 
--- the word that has the bit of a cell: 128 words for at most 4,096 cells
-abbrev pub word_of : ℕ → ℕ
-word_of c = c / 32 % 128
-
-abbrev pub word_at : List ℕ → ℕ → ℕ
-word_at marks c = get_or marks (word_of c) 0
-
+-- a bit for each cell: 128 words for at most 4,096 cells
 unfoldable pub is_marked : List ℕ → ℕ → Bool
-is_marked marks c = named (word_at marks c) (c % 32)
+is_marked marks c = has_bit 128 marks c
 
 unfoldable pub marked_with : List ℕ → ℕ → List ℕ
-marked_with marks c = set marks (word_of c) (with_bit (word_at marks c) (c % 32))
+marked_with marks c = bits_with 128 marks c
 
 -- ---- the walk outside the victims, as a total function of any area and any cells
 

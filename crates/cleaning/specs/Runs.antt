@@ -1,8 +1,6 @@
 -- Chosen entries that stand one behind the other: where the slot is of the new head's edition, what is copied of them is one stretch of
 -- the area.
-use Rattle.std.specs.Prelude.{ℕ, ◌+◌, ◌*◌, ◌-◌, ◌≤◌, ◌≡◌, true, false, List, [], ◌++◌, length, take, drop}
-use Rattle.std.proofs.Common.{sym, ◌∙◌, ap, subst, append_assoc, arith, take-add, drop-drop}
-use Rattle.std.proofs.lemmas.List.Edits.{sets}
+use Rattle.std.specs.Prelude.{ℕ, ◌+◌, ◌*◌, ◌-◌, ◌≤◌, ◌≡◌, List, ◌++◌, length, take, drop}
 use Rattle.segment.specs.Layout.{Layout}
 use Rattle.cleaning.specs.ChosenLaws.{chosen_from}
 

@@ -1,8 +1,5 @@
 -- Whether a victim holds a tombstone, as a total function of any area: only then the marks are made.
-use Rattle.std.specs.Prelude.{ℕ, ◌+◌, ◌≤◌, ◌<◌, ◌≡◌, refl, Bool, true, false}
-use Rattle.std.proofs.Math.Path.{sym, ap}
-use Rattle.std.proofs.Common.{◌∙◌, add-one, arith}
-use mathlib.Core.List.Memᴰ
+use Rattle.std.specs.Prelude.{ℕ, Bool, false}
 use mathlib.Core.List.{List, [], ◌∷◌}
 use Rattle.segment.specs.Choice.{both, either}
 use Rattle.segment.specs.Entry.{is_tombstone}

@@ -2,14 +2,14 @@
 ghost use Rattle.std.specs.Prelude.{◌≡◌, length};
 ghost use Rattle.cleaning.specs.Chosen.{is_chosen, chosen_with};
 
+use crate::bits::{has_bit, set_bit};
+
 // Chooses the entry at a place.
 pub fn choose(chosen: &mut [u32], place: usize)
     requires { length chosen.old ≡ 256 }
     ensures { chosen.new ≡ chosen_with chosen.old place }
 {
-    let word = place / 8 / 32 % 256;
-    let bit = (place / 8 % 32) as u32;
-    chosen[word] = slot_map::with_slot(chosen[word], bit);
+    set_bit::<256>(chosen, place / 8);
 }
 
 // Whether the entry at a place is chosen.
@@ -17,6 +17,5 @@ pub fn is_chosen(chosen: &[u32], place: usize) -> bool
     requires { length chosen.now ≡ 256 }
     ensures { result ≡ is_chosen chosen.now place }
 {
-    let bit = (place / 8 % 32) as u32;
-    slot_map::has_slot(chosen[place / 8 / 32 % 256], bit)
+    has_bit::<256>(chosen, place / 8)
 }

@@ -21,7 +21,6 @@ use segment::Edition;
 use segment::layout::{NUMBER_LIMIT, digest_size};
 use segment::writer::write_digest;
 use slot_map::{is_within, next_free, without_slots};
-use starting::Check;
 use starting::answer::{refused, started};
 use starting::checks::check_idle;
 use starting::digest::new_digest;
@@ -44,43 +43,45 @@ pub fn split_of(rec: Record, victims: u32) -> Split
     Split {
         slots: rec.slots as usize,
         size: rec.size as usize,
-        victims: victims,
+        victims,
         outside: without_slots(rec.map, victims),
     }
 }
 
 // The first tests of a cleaning: 4, 3, 5, 13.
-fn check_victims(rec: Record, area: usize, index: usize, work: usize, victims: u32) -> Check
+fn check_victims(
+    rec: Record,
+    area: usize,
+    index: usize,
+    work: usize,
+    victims: u32,
+) -> Result<(), Refusal>
     ensures { result ≡ checked (first_cause (front_causes rec.edition rec (record { area = area; index = index; work = work }) victims)) }
 {
     if !fits_lent(rec, area, index) {
-        return Check::Refused(Refusal::BadRecord);
+        return Err(Refusal::BadRecord);
     }
-    match check_idle(rec, work) {
-        Check::Refused(c) => Check::Refused(c),
-        Check::Passed => {
-            if victims_bad(rec, victims) {
-                return Check::Refused(Refusal::BadVictims);
-            }
-            Check::Passed
-        }
+    check_idle(rec, work)?;
+    if victims_bad(rec, victims) {
+        return Err(Refusal::BadVictims);
     }
+    Ok(())
 }
 
 // The last tests, for so many bytes kept in the edition of the new head: 14, 10.
-fn check_kept(rec: Record, into: Edition, count: usize) -> Check
+fn check_kept(rec: Record, into: Edition, count: usize) -> Result<(), Refusal>
     requires { count ≤ 131072 }
     ensures { result ≡ checked (first_cause (kept_causes into rec count)) }
 {
     let length = digest_size(into) + count;
     if (rec.size as usize) < length {
-        return Check::Refused(Refusal::KeptTooLong);
+        return Err(Refusal::KeptTooLong);
     }
     let number = rec.digest;
     if number.0 == NUMBER_LIMIT {
-        return Check::Refused(Refusal::NumbersSpent);
+        return Err(Refusal::NumbersSpent);
     }
-    Check::Passed
+    Ok(())
 }
 
 // The new head's bytes, in its edition, go to the work buffer, and the cleaning is pending.
@@ -133,8 +134,8 @@ fn clean_marked(
     let mut chosen = [0u32; 256];
     let count = measure(into, area, index, marks, &mut chosen, split);
     match check_kept(rec, into, count) {
-        Check::Refused(c) => refused(rec, c),
-        Check::Passed => begin(rec, into, area, &chosen, work, victims, split),
+        Err(c) => refused(rec, c),
+        Ok(()) => begin(rec, into, area, &chosen, work, victims, split),
     }
 }
 
@@ -143,8 +144,8 @@ pub fn clean(rec: Record, area: &[u8], index: &[u32], work: &mut [u8], victims: 
     ensures { StartPromise rec.edition freely (Operation.clean victims) rec area.now index.now work.old work.new result }
 {
     match check_victims(rec, area.len(), index.len(), work.len(), victims) {
-        Check::Refused(c) => refused(rec, c),
-        Check::Passed => {
+        Err(c) => refused(rec, c),
+        Ok(()) => {
             let split = split_of(rec, victims);
             let mut marks = [0u32; 128];
             mark_needed(area, index, &mut marks, split);

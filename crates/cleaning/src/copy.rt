@@ -177,10 +177,8 @@ pub fn copy_kept(
     ensures { Copied (chosen_bytes into area.now chosen.now split) work.old from work.new result }
 {
     let mut to = from;
-    let mut i = 0;
-    while i < split.slots {
+    for i in 0..split.slots {
         to = copy_victim(into, area, chosen, split, i, work, to);
-        i += 1;
     }
     to
 }

@@ -175,10 +175,8 @@ pub fn measure(
         chosen.old) }
 {
     let mut total = 0;
-    let mut i = 0;
-    while i < split.slots {
+    for i in 0..split.slots {
         total += measure_victim(into, area, cells, marks, chosen, split, i);
-        i += 1;
     }
     total
 }

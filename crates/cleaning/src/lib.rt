@@ -1,7 +1,8 @@
 // The start of a cleaning: what is kept of the victims' slots is measured, and then laid out in the work buffer behind the
-// digest of a new head.
+// digest of a new head. Each walk over a segment's entries is a loop of its own and takes no closure, so that all of it is put in line.
 #![tactic(auto)]
 
+mod bits;
 pub mod by_kind;
 pub mod chosen;
 pub mod clean;

@@ -2,14 +2,14 @@
 ghost use Rattle.std.specs.Prelude.{◌≡◌, length};
 ghost use Rattle.cleaning.specs.Marks.{is_marked, marked_with};
 
+use crate::bits::{has_bit, set_bit};
+
 // Marks a cell.
 pub fn mark(marks: &mut [u32], cell: usize)
     requires { length marks.old ≡ 128 }
     ensures { marks.new ≡ marked_with marks.old cell }
 {
-    let word = cell / 32 % 128;
-    let bit = (cell % 32) as u32;
-    marks[word] = slot_map::with_slot(marks[word], bit);
+    set_bit::<128>(marks, cell);
 }
 
 // Whether a cell is marked.
@@ -17,6 +17,5 @@ pub fn is_marked(marks: &[u32], cell: usize) -> bool
     requires { length marks.now ≡ 128 }
     ensures { result ≡ is_marked marks.now cell }
 {
-    let bit = (cell % 32) as u32;
-    slot_map::has_slot(marks[cell / 32 % 128], bit)
+    has_bit::<128>(marks, cell)
 }

@@ -1,10 +1,10 @@
 // The keys of the victims' tombstones, put into a filter. An object of any other key keeps no tombstone.
 ghost use Rattle.std.specs.Prelude.{◌≤◌, ◌<◌, ◌≡◌, length};
-ghost use Rattle.segment.specs.Layout.{edition1, edition2, digest_size};
+ghost use Rattle.segment.specs.Layout.{digest_size};
 ghost use Rattle.index.specs.Build.{entries_at};
 ghost use Rattle.cleaning.specs.Entries.{SplitFits};
 ghost use Rattle.cleaning.specs.Walks.{walk_items, walk_part, walk_slot};
-ghost use Rattle.cleaning.specs.Filter.{note_entry, note_victims};
+ghost use Rattle.cleaning.specs.Filter.{edition_as, note_entry, note_victims};
 
 use crate::Split;
 use crate::filter::put;
@@ -26,39 +26,23 @@ fn note_entry(filter: &mut [u32], header: Header)
     put(filter, header.key);
 }
 
-// Those of a segment of the first edition. Damage ends a segment too. The walk is written once for each edition, so that no turn asks
-// for the edition.
-fn note_first(s: &[u8], filter: &mut [u32])
+// Those of a segment of one edition. Damage ends a segment too. A const parameter picks the edition: the walk is made once for each,
+// and no turn asks for it.
+fn note_as<const SECOND: bool>(s: &[u8], filter: &mut [u32])
     requires { (length s.now ≤ 2048) × (length filter.old ≡ 128) }
-    ensures { filter.new ≡ walk_items edition1 note_entry filter.old (entries_at edition1 s.now (digest_size edition1)) }
+    ensures { filter.new ≡ walk_items (edition_as SECOND) note_entry filter.old (entries_at (edition_as SECOND) s.now (digest_size (edition_as SECOND))) }
 {
-    let mut at = digest_size(Edition::First);
+    let edition = if SECOND {
+        Edition::Second
+    } else {
+        Edition::First
+    };
+    let mut at = digest_size(edition);
     loop {
-        match next(Edition::First, s, at) {
+        match next(edition, s, at) {
             Next::Entry(header) => {
                 note_entry(filter, header);
-                at = behind(Edition::First, at, header);
-            }
-            Next::End => {
-                return;
-            }
-            Next::Damage => {
-                return;
-            }
-        }
-    }
-}
-
-fn note_second(s: &[u8], filter: &mut [u32])
-    requires { (length s.now ≤ 2048) × (length filter.old ≡ 128) }
-    ensures { filter.new ≡ walk_items edition2 note_entry filter.old (entries_at edition2 s.now (digest_size edition2)) }
-{
-    let mut at = digest_size(Edition::Second);
-    loop {
-        match next(Edition::Second, s, at) {
-            Next::Entry(header) => {
-                note_entry(filter, header);
-                at = behind(Edition::Second, at, header);
+                at = behind(edition, at, header);
             }
             Next::End => {
                 return;
@@ -78,8 +62,8 @@ fn note_slot(edition: Edition, area: &[u8], filter: &mut [u32], split: Split, sl
 {
     let s = cut(split.size, area, slot);
     match edition {
-        Edition::First => note_first(s, filter),
-        Edition::Second => note_second(s, filter),
+        Edition::First => note_as::<false>(s, filter),
+        Edition::Second => note_as::<true>(s, filter),
     }
 }
 
@@ -101,9 +85,7 @@ pub fn note_victims(area: &[u8], filter: &mut [u32], split: Split)
     requires { SplitFits split area.now filter.old }
     ensures { filter.new ≡ note_victims area.now split filter.old }
 {
-    let mut i = 0;
-    while i < split.slots {
+    for i in 0..split.slots {
         note_part(area, filter, split, i);
-        i += 1;
     }
 }

@@ -112,16 +112,14 @@ pub fn mark_outside(area: &[u8], cells: &[u32], filter: &[u32], marks: &mut [u32
     requires { SplitFits split area.now marks.old × (length filter.now ≡ 128) }
     ensures { marks.new ≡ sift_outside area.now cells.now filter.now split marks.old }
 {
-    if cells.len() == 0 {
+    if cells.is_empty() {
         return;
     }
     if MOST_CELLS < cells.len() {
         return;
     }
-    let mut i = 0;
-    while i < split.slots {
+    for i in 0..split.slots {
         mark_part(area, cells, filter, marks, split, i);
-        i += 1;
     }
 }
 

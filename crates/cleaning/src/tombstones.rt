@@ -55,12 +55,10 @@ pub fn any_tombstone(area: &[u8], split: Split) -> bool
     requires { SlotsFit split area.now }
     ensures { result ≡ any_tombstone area.now split }
 {
-    let mut i = 0;
-    while i < split.slots {
+    for i in 0..split.slots {
         if slot_holds(area, split, i) {
             return true;
         }
-        i += 1;
     }
     false
 }

@@ -1,5 +1,5 @@
 -- What the parts of a conversion give together is what it promises.
-use Rattle.std.specs.Prelude.{ℕ, Bool, true, false, length}
+use Rattle.std.specs.Prelude.{ℕ, Bool, true, false, length, Ok, Err}
 use Rattle.std.proofs.Math.Path.{◌≡◌, refl, ap}
 use Rattle.std.proofs.Common.{sym, ◌∙◌, subst, arith}
 use mathlib.Core.List.{List, [], ◌∷◌, ◌++◌}
@@ -11,7 +11,7 @@ use Rattle.segment.specs.declared.Digest.{Digest}
 use Rattle.segment.specs.declared.Version.{Version}
 use Rattle.slot_map.specs.Bit.{named}
 use Rattle.record.specs.Answers.{taken, said_by, convert_said}
-use Rattle.record.specs.declared.ConvertAnswer.{ConvertAnswer}
+use Rattle.record.specs.Answered.{ConvertAnswer}
 use Rattle.record.specs.declared.Refusal.{Refusal}
 use Rattle.record.specs.declared.Refusal.TheVariants.{Geometry, SlotTooLong, VersionTooWide}
 use Rattle.model.specs.Log.{View, Head, views_of, head_of, log_of, highest}
@@ -27,7 +27,6 @@ use Rattle.recovery.specs.FormatLaws.{geometry-fits}
 use Rattle.recovery.specs.Recovering.{image_checks, image_for, image_of}
 use Rattle.recovery.specs.RecoverPromises.{SoundImage}
 use Rattle.recovery.proofs.RecoverPromises.{sound-image, image-editions, image-scans}
-use Rattle.recovery.specs.declared.Image.{Image}
 use Rattle.converting.specs.Parts.{LogOf}
 use Rattle.converting.specs.Converting.{LogConverted}
 
@@ -47,7 +46,7 @@ module _ (L : Layout) (v : ℕ → View) (p : ℕ → Bool) (S n : ℕ) (target 
   its-long : slot_too_long (other_layout L) v p S n ≡ long
   its-long = ap (λ (M : Layout). slot_too_long M v p S n) (sym is) ∙ sym long-is
 
-  refused : (c : Refusal) → first ≡ some c → LogConverted L v p S n target target (ConvertAnswer.Refused c)
+  refused : (c : Refusal) → first ≡ some c → LogConverted L v p S n target target (Err c)
   unfolding convert_answer area_unless
   refused c e =
       record {
@@ -55,19 +54,19 @@ module _ (L : Layout) (v : ℕ → View) (p : ℕ → Bool) (S n : ℕ) (target 
         leaves = ap (λ (o : Option Refusal). area_unless o (converted_slots (other_layout L) v p S n) target) (sym e);
       }
 
-  pub log-long : long ≡ true → LogConverted L v p S n target target (ConvertAnswer.Refused SlotTooLong)
+  pub log-long : long ≡ true → LogConverted L v p S n target target (Err SlotTooLong)
   log-long e = refused SlotTooLong (cause-first long-cause (wide-cause ∷ []) (its-long ∙ e))
 
   module _ (short : long ≡ false) (wide : Bool) (wide_is : wide ≡ slot_too_wide K v p n) where
     its-wide : slot_too_wide (other_layout L) v p n ≡ wide
     its-wide = ap (λ (M : Layout). slot_too_wide M v p n) (sym is) ∙ sym wide_is
 
-    pub log-wide : wide ≡ true → LogConverted L v p S n target target (ConvertAnswer.Refused VersionTooWide)
+    pub log-wide : wide ≡ true → LogConverted L v p S n target target (Err VersionTooWide)
     log-wide e =
         refused VersionTooWide
         (cause-skip long-cause (wide-cause ∷ []) (its-long ∙ short) ∙ cause-first wide-cause [] (its-wide ∙ e))
 
-    pub log-put : wide ≡ false → (target' : List ℕ) → target' ≡ converted_slots K v p S n → LogConverted L v p S n target target' ConvertAnswer.Converted
+    pub log-put : wide ≡ false → (target' : List ℕ) → target' ≡ converted_slots K v p S n → LogConverted L v p S n target target' (Ok tt)
     unfolding convert_answer area_unless first_cause
     log-put e target' f =
         let none_first : first ≡ none = cause-skip long-cause (wide-cause ∷ []) (its-long ∙ short) ∙ cause-skip wide-cause [] (its-wide ∙ e) in
@@ -110,19 +109,19 @@ module _ (n s : ℕ) (source target : List ℕ) where
       → ConvertPromise n s source target target' a
   promised a target' e f = record { answers = e; says = ap convert_said e ∙ convert-says (first_cause causes); leaves = f }
 
-  turned-away : (c : Refusal) → first_cause causes ≡ some c → ConvertPromise n s source target target (ConvertAnswer.Refused c)
+  turned-away : (c : Refusal) → first_cause causes ≡ some c → ConvertPromise n s source target target (Err c)
   unfolding convert_answer area_unless
   turned-away c e =
-      promised (ConvertAnswer.Refused c) target (ap convert_answer (sym e))
+      promised (Err c) target (ap convert_answer (sym e))
       (ap (λ (o : Option Refusal). area_unless o (converted_image n s source) target) (sym e))
 
   -- either buffer
-  pub convert-source : geometry_bad n s (length source) ≡ true → ConvertPromise n s source target target (ConvertAnswer.Refused Geometry)
+  pub convert-source : geometry_bad n s (length source) ≡ true → ConvertPromise n s source target target (Err Geometry)
   convert-source g =
       turned-away Geometry
       (cause-first geometry (image ++ fits) (either-true-left (geometry_bad n s (length source)) (geometry_bad n s (length target)) g))
 
-  pub convert-target : geometry_bad n s (length target) ≡ true → ConvertPromise n s source target target (ConvertAnswer.Refused Geometry)
+  pub convert-target : geometry_bad n s (length target) ≡ true → ConvertPromise n s source target target (Err Geometry)
   convert-target g =
       turned-away Geometry
       (cause-first geometry (image ++ fits) (either-true-right (geometry_bad n s (length source)) (geometry_bad n s (length target)) g))
@@ -131,15 +130,15 @@ module _ (n s : ℕ) (source target : List ℕ) where
     past-geometry : first_cause causes ≡ first_cause (image ++ fits)
     past-geometry = cause-skip geometry (image ++ fits) (either-false (geometry_bad n s (length source)) (geometry_bad n s (length target)) g h)
 
-    pub convert-refused : (c : Refusal) → image_of true v n ≡ Image.Refused c → ConvertPromise n s source target target (ConvertAnswer.Refused c)
+    pub convert-refused : (c : Refusal) → image_of true v n ≡ Err c → ConvertPromise n s source target target (Err c)
     unfolding image_for
     convert-refused c e = turned-away c (go (first_cause image) refl e)
       where
-        go : (o : Option Refusal) → first_cause image ≡ o → image_for v n (head_else (head_of v n)) o ≡ Image.Refused c → first_cause causes ≡ some c
+        go : (o : Option Refusal) → first_cause image ≡ o → image_for v n (head_else (head_of v n)) o ≡ Err c → first_cause causes ≡ some c
         go none p q = let z : ◌≡◌ {A = ℕ} 0 1 = cc in absurd (omega arith)
         go (some b) p q = let same : b ≡ c = cc in past-geometry ∙ first_some image fits c (p ∙ ap some same)
 
-    module _ (L : Layout) (i : ℕ) (d : Digest) (top : Version) (sound : image_of true v n ≡ Image.Sound L i d top) where
+    module _ (L : Layout) (i : ℕ) (d : Digest) (top : Version) (sound : image_of true v n ≡ Ok (record { edition = L; slot = i; digest = d; highest = top })) where
       one : SoundImage true L v n i d top
       one = sound-image true L v n i d top sound
 

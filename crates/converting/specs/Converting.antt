@@ -1,7 +1,7 @@
 -- What 29 and 30 decide, once the image is known to be sound.
 use Rattle.std.specs.Prelude.{ℕ, ◌≡◌, Bool, List}
 use Rattle.segment.specs.Layout.{Layout, other_layout}
-use Rattle.record.specs.declared.ConvertAnswer.{ConvertAnswer}
+use Rattle.record.specs.Answered.{ConvertAnswer}
 use Rattle.model.specs.Log.{View}
 use Rattle.model.specs.Causes.{first_cause}
 use Rattle.model.specs.Conversion.{fit_causes, converted_slots, convert_answer}

@@ -10,8 +10,7 @@ ghost use Rattle.converting.specs.Converting.{LogConverted};
 use crate::rewrite::put_log;
 use crate::sizes::too_long;
 use crate::widths::too_wide;
-use record::{ConvertAnswer, Refusal};
-use recovery::Image;
+use record::Refusal;
 use recovery::format::geometry_bad;
 use recovery::recover::look_at;
 use segment::layout::other;
@@ -26,41 +25,41 @@ fn convert_log(
     map: u32,
     top: Version,
     target: &mut [u8],
-) -> ConvertAnswer
+) -> Result<(), Refusal>
     requires shape { Shape n s source.now × LogOf from (views_of source.now s) (named map) n }
     requires top_value { (top.0 ≡ highest (log_of (views_of source.now s) (named map) n)) × (length target.old ≡ n * s) }
     ensures { LogConverted from (views_of source.now s) (named map) s n target.old target.new result }
 {
     let to = other(from);
     if too_long(from, to, n, s, source, map) {
-        return ConvertAnswer::Refused(Refusal::SlotTooLong);
+        return Err(Refusal::SlotTooLong);
     }
     if too_wide(from, to, n, s, source, map, top) {
-        return ConvertAnswer::Refused(Refusal::VersionTooWide);
+        return Err(Refusal::VersionTooWide);
     }
     put_log(from, to, n, s, source, map, target);
-    ConvertAnswer::Converted
+    Ok(())
 }
 
 // An image of one edition put into the other: up from the first, down from the second. A refusal leaves the target as it was.
-pub fn convert(n: u32, s: u32, source: &[u8], target: &mut [u8]) -> ConvertAnswer
+pub fn convert(n: u32, s: u32, source: &[u8], target: &mut [u8]) -> Result<(), Refusal>
     ensures { ConvertPromise n s source.now target.old target.new result }
 {
     if geometry_bad(n, s, source.len()) {
-        return ConvertAnswer::Refused(Refusal::Geometry);
+        return Err(Refusal::Geometry);
     }
     if geometry_bad(n, s, target.len()) {
-        return ConvertAnswer::Refused(Refusal::Geometry);
+        return Err(Refusal::Geometry);
     }
-    match look_at(true, n as usize, s as usize, source) {
-        Image::Refused(cause) => ConvertAnswer::Refused(cause),
-        Image::Sound {
-            edition,
-            slot: _,
-            digest,
-            highest,
-        } => convert_log(
-            edition, n as usize, s as usize, source, digest.map, highest, target,
-        ),
-    }
+    let image = look_at(true, n as usize, s as usize, source)?;
+    let map = image.digest.map;
+    convert_log(
+        image.edition,
+        n as usize,
+        s as usize,
+        source,
+        map,
+        image.highest,
+        target,
+    )
 }

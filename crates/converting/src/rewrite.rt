@@ -47,10 +47,8 @@ fn clear(target: &mut [u8], start: usize, stop: usize)
     requires { (start ≤ stop) × (stop ≤ length target.old) }
     ensures { Copied (replicate (stop - start) 0) target.old start target.new stop }
 {
-    let mut at = start;
-    while at < stop {
+    for at in start..stop {
         target[at] = 0;
-        at += 1;
     }
 }
 
@@ -83,11 +81,8 @@ pub fn put_log(
     requires target_len { length target.old ≡ n * s }
     ensures { target.new ≡ converted_slots to (views_of source.now s) (named map) s n }
 {
-    let mut i = 0;
-    while i < n {
-        let slot = i;
+    for slot in 0..n {
         let start = slot * s;
-        i += 1;
         if !is_named(map, slot) {
             clear(target, start, start + s);
             continue;

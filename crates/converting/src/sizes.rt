@@ -53,10 +53,7 @@ pub fn too_long(from: Edition, to: Edition, n: usize, s: usize, source: &[u8], m
     if head_size(to) <= head_size(from) {
         return false;
     }
-    let mut i = 0;
-    while i < n {
-        let slot = i;
-        i += 1;
+    for slot in 0..n {
         if !is_named(map, slot) {
             continue;
         }

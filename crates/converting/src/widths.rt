@@ -43,10 +43,7 @@ pub fn too_wide(
     if version_limit(to) <= top.0 {
         return true;
     }
-    let mut i = 0;
-    while i < n {
-        let slot = i;
-        i += 1;
+    for slot in 0..n {
         if !is_named(map, slot) {
             continue;
         }

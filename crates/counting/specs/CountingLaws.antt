@@ -1,5 +1,5 @@
 -- The numbers at each test of the code, and what they are on a recovered log.
-use Rattle.std.specs.Prelude.{ℕ, ◌+◌, ◌-◌, ◌*◌, ◌≤◌, ◌<◌, ◌≡◌, Bool, true, length, get_or, set, drop}
+use Rattle.std.specs.Prelude.{ℕ, ◌+◌, ◌*◌, ◌≤◌, ◌<◌, ◌≡◌, Bool, true, length, get_or, set, drop}
 use Rattle.std.proofs.Math.Path.{refl, ap}
 use Rattle.std.proofs.Common.{sym, ◌∙◌, ap₂, zero-add, length-take, ext_get_or, get_or-set_same, get_or-set_other}
 use Rattle.std.proofs.Math.Bool.{false}

@@ -18,10 +18,7 @@ use slot_map::has_slot;
 fn less(a: u32, b: usize) -> u32
     ensures { result ≡ a - b }
 {
-    if a as usize <= b {
-        return 0;
-    }
-    a - b as u32
+    (a as usize).saturating_sub(b) as u32
 }
 
 // A slot has fewer present bytes.
@@ -100,10 +97,8 @@ fn clear(counts: &mut [u32], victims: u32)
     requires { length counts.old ≤ 32 }
     ensures { counts.new ≡ without_victims victims 0 counts.old }
 {
-    let mut i = 0;
-    while i < counts.len() {
-        counts[i] = unless_victim(victims, i as u32, counts[i]);
-        i += 1;
+    for (i, count) in counts.iter_mut().enumerate() {
+        *count = unless_victim(victims, i as u32, *count);
     }
 }
 

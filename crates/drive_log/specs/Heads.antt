@@ -1,8 +1,10 @@
 -- The head search: the enum for a head, and what a turn of each loop adds.
 use Prim.Native.Nat.{ℕ, zero, suc, ◌+◌, ◌≤◌, ◌<◌}
-use Rattle.std.specs.Prelude.{◌≡◌, Bool, true, eqb, ltb}
+use Rattle.std.specs.Prelude.{◌≡◌, Bool, true, eqb, ltb, nat_lt, cond, ◌==◌}
+use Rattle.std.specs.Ordering.{is_lt, nat_cmp}
+use Rattle.std.specs.declared.cmp.Ordering.TheVariants.{Less, Equal, Greater}
 use Rattle.std.proofs.Math.Path.{refl, sym, ap, ap₂}
-use Rattle.std.proofs.Common.{◌∙◌, subst, add-one, arith, lt-ltb, le-ltb, eq-eqb, ne_eqb, eqb-true}
+use Rattle.std.proofs.Common.{◌∙◌, subst, add-one, arith, eqb-true}
 use Rattle.std.proofs.Math.Bool.{false, not}
 use mathlib.Core.List.{List}
 use Rattle.std.proofs.Math.Option.{Option, none, some}
@@ -13,100 +15,126 @@ use Rattle.segment.specs.Layout.{Layout, edition1, edition2, same_layout}
 use Rattle.segment.specs.declared.Edition.TheVariants.{First, Second}
 use Rattle.segment.specs.Digest.{layout_in, digest_of, is_digest}
 use Rattle.segment.specs.declared.Digest.{Digest}
+use Rattle.segment.specs.contracts.Edition.{the_type}
+use denote.Enum.Bare.{sameb}
+use Rattle.std.specs.Int.{from_bool}
+use Rattle.std.specs.Prelude as P
+use Rattle.drive_log.specs.Tables.{one-pick}
 use Rattle.model.specs.Log.{View, Head, segment_of, views_of, head_of, newer, digest_in}
 use Rattle.model.specs.Recovery.{has_number, sharing, names_no_digest, other_edition, later, later_edition}
-use Rattle.drive_log.specs.declared.HeadFound.{HeadFound}
-use Rattle.drive_log.specs.declared.HeadFound.TheVariants.{Nothing, At}
+use Rattle.drive_log.specs.declared.FoundHead.{FoundHead}
 use Rattle.laws.specs.HeadLaws.{number-le}
 
--- the enum for a head, and the head that it says
-unfoldable pub told : Option Head → HeadFound
-told none = Nothing
-told (some h) = At h.slot h.digest
+-- what the code answers for a head, and the head that it says
+unfoldable pub told : Option Head → P.Option FoundHead
+told none = P.None
+told (some h) = P.Some (record { slot = h.slot; digest = h.digest })
 
-unfoldable pub untold : HeadFound → Option Head
-untold Nothing = none
-untold (At i d) = some (record { slot = i; digest = d })
+unfoldable pub untold : P.Option FoundHead → Option Head
+untold P.None = none
+untold (P.Some f) = some (record { slot = f.slot; digest = f.digest })
 
-pub told-untold : (f : HeadFound) → told (untold f) ≡ f
+pub told-untold : (f : P.Option FoundHead) → told (untold f) ≡ f
 unfolding told untold
-told-untold Nothing = refl
-told-untold (At i d) = refl
+told-untold P.None = refl
+told-untold (P.Some f) = refl
 
 pub untold-told : (h : Option Head) → untold (told h) ≡ h
 unfolding told untold
 untold-told none = refl
 untold-told (some h) = refl
 
--- what the enum tells of the head
-pub told-nothing : (h : Option Head) → told h ≡ Nothing → h ≡ none
+-- what it tells of the head
+pub told-nothing : (h : Option Head) → told h ≡ P.None → h ≡ none
 unfolding untold
 told-nothing h e = sym (untold-told h) ∙ ap untold e
 
-pub told_at : (h : Option Head) (i : ℕ) (d : Digest) → told h ≡ At i d → h ≡ some (record { slot = i; digest = d })
+pub told_at : (h : Option Head) (f : FoundHead) → told h ≡ P.Some f → h ≡ some (record { slot = f.slot; digest = f.digest })
 unfolding untold
-told_at h i d e = sym (untold-told h) ∙ ap untold e
+told_at h f e = sym (untold-told h) ∙ ap untold e
+
+-- the derived order of digest numbers and of versions is that of their numbers
+pub lt-tested : (a b : ℕ) → is_lt (nat_cmp a b) ≡ ltb a b
+lt-tested a b = go (nat_lt a b) (a == b)
+  where
+    go : (t u : Bool) → is_lt (cond t Less (cond u Equal Greater)) ≡ t
+    go true u = refl
+    go false true = refl
+    go false false = refl
 
 -- ---- the digest of a slot's bytes, by the test for one
 
 module _ (s : List ℕ) (t : Bool) (tested : t ≡ is_digest s) where
-  none_in : t ≡ false → digest_in s ≡ none
+  pub none_in : t ≡ false → digest_in s ≡ none
   unfolding digest_in
   none_in e = pick-false (is_digest s) _ _ (sym tested ∙ e)
 
-  some_in : t ≡ true → digest_in s ≡ some (digest_of (layout_in s) s)
+  pub some_in : t ≡ true → digest_in s ≡ some (digest_of (layout_in s) s)
   unfolding digest_in
   some_in e = pick_true (is_digest s) _ _ (sym tested ∙ e)
 
--- ---- the later of the newest so far and a slot's
+-- ---- what may be missing, as the code has it
 
-module _ (s : List ℕ) (t : Bool) (tested : t ≡ is_digest s) (best : HeadFound) (slot : ℕ) where
-  pub later-none : t ≡ false → best ≡ told (newer (untold best) slot (digest_in s))
-  unfolding newer
-  later-none e = sym (ap (λ (d : Option Digest). told (newer (untold best) slot d)) (none_in s t tested e) ∙ told-untold best)
+unfoldable pub as_option : {A : Type 0} → Option A → P.Option A
+as_option none = P.None
+as_option (some x) = P.Some x
 
-  -- d is the slot's digest
-  module _ (d : Digest) (its : d ≡ digest_of (layout_in s) s) (has : t ≡ true) where
-    found : digest_in s ≡ some d
-    found = some_in s t tested has ∙ ap some (sym its)
+none_of : (o : Option Digest) → as_option o ≡ P.None → o ≡ none
+unfolding as_option
+none_of none q = refl
+none_of (some x) q = cc
 
-    pub later_first : best ≡ Nothing → At slot d ≡ told (newer (untold best) slot (digest_in s))
-    unfolding told untold newer
-    later_first e = rw (found, e)
+some_of : (o : Option Digest) (d : Digest) → as_option o ≡ P.Some d → o ≡ some d
+unfolding as_option
+some_of none d q = cc
+some_of (some x) d q = cc
 
-    pub later-higher : (i : ℕ) (top : Digest) → best ≡ At i top → top.number.0 < d.number.0
-        → At slot d ≡ told (newer (untold best) slot (digest_in s))
-    unfolding told untold newer
-    later-higher i top e h = rw (found, e, pick_true (ltb top.number.0 d.number.0) _ _ (lt-ltb top.number.0 d.number.0 h))
+-- the digest of a slot's bytes, by the code's answer for it
+module _ (s : List ℕ) (r : P.Option Digest) (its : r ≡ as_option (digest_in s)) where
+  lacks : r ≡ P.None → digest_in s ≡ none
+  lacks e = none_of (digest_in s) (sym its ∙ e)
 
-    pub later-lower : (i : ℕ) (top : Digest) → best ≡ At i top → d.number.0 ≤ top.number.0
-        → At i top ≡ told (newer (untold best) slot (digest_in s))
-    unfolding told untold newer
-    later-lower i top e h = rw (found, e, pick-false (ltb top.number.0 d.number.0) _ _ (le-ltb top.number.0 d.number.0 h))
+  has : (d : Digest) → r ≡ P.Some d → digest_in s ≡ some d
+  has d e = some_of (digest_in s) d (sym its ∙ e)
 
--- ---- 1 where a slot's digest has the number k
+  -- ---- the later of the newest so far and a slot's
 
-module _ (s : List ℕ) (t : Bool) (tested : t ≡ is_digest s) (k : ℕ) where
-  pub number-none : t ≡ false → 0 ≡ has_number (digest_in s) k
-  unfolding has_number
-  number-none e = rw (none_in s t tested e)
+  module _ (best : P.Option FoundHead) (slot : ℕ) where
+    pub later-none : r ≡ P.None → best ≡ told (newer (untold best) slot (digest_in s))
+    unfolding newer
+    later-none e = sym (ap (λ (d : Option Digest). told (newer (untold best) slot d)) (lacks e) ∙ told-untold best)
 
-  module _ (d : Digest) (its : d ≡ digest_of (layout_in s) s) (has : t ≡ true) where
-    own : digest_in s ≡ some d
-    own = some_in s t tested has ∙ ap some (sym its)
+    -- d is the slot's digest
+    module _ (d : Digest) (found : r ≡ P.Some d) where
+      pub later_first : best ≡ P.None → P.Some (record { slot = slot; digest = d }) ≡ told (newer (untold best) slot (digest_in s))
+      unfolding told untold newer
+      later_first e = rw (has d found, e)
 
-    pub number_same : d.number.0 ≡ k → 1 ≡ has_number (digest_in s) k
+      pub later-higher : (top : FoundHead) → best ≡ P.Some top → ltb top.digest.number.0 d.number.0 ≡ true
+          → P.Some (record { slot = slot; digest = d }) ≡ told (newer (untold best) slot (digest_in s))
+      unfolding told untold newer
+      later-higher top e h = rw (has d found, e, pick_true (ltb top.digest.number.0 d.number.0) _ _ h)
+
+      pub later-lower : (top : FoundHead) → best ≡ P.Some top → ltb top.digest.number.0 d.number.0 ≡ false
+          → P.Some top ≡ told (newer (untold best) slot (digest_in s))
+      unfolding told untold newer
+      later-lower top e h = rw (has d found, e, pick-false (ltb top.digest.number.0 d.number.0) _ _ h)
+
+  -- ---- 1 where a slot's digest has the number k
+
+  module _ (k : ℕ) where
+    pub number-none : r ≡ P.None → 0 ≡ has_number (digest_in s) k
     unfolding has_number
-    number_same e = rw (own, pick_true {A = ℕ} (eqb d.number.0 k) 1 0 (eq-eqb d.number.0 k e))
+    number-none e = rw (lacks e)
 
-    pub number-other : (d.number.0 ≡ k → ⊥) → 0 ≡ has_number (digest_in s) k
+    pub number-tested : (d : Digest) → r ≡ P.Some d → from_bool (eqb d.number.0 k) ≡ has_number (digest_in s) k
     unfolding has_number
-    number-other e = rw (own, pick-false {A = ℕ} (eqb d.number.0 k) 1 0 (ne_eqb d.number.0 k e))
+    number-tested d found = rw (has d found) (one-pick (eqb d.number.0 k))
 
 -- ---- the turns of the loops; part is slot i's part of the area
 
 module _ (area : List ℕ) (s i : ℕ) (part : List ℕ) (its : part ≡ segment_of area s i) where
-  pub head-turn : (best r : HeadFound) → best ≡ told (head_of (views_of area s) i) → r ≡ told (newer (untold best) i (digest_in part))
+  pub head-turn : (best r : P.Option FoundHead) → best ≡ told (head_of (views_of area s) i) → r ≡ told (newer (untold best) i (digest_in part))
       → r ≡ told (head_of (views_of area s) (i + 1))
   unfolding head_of
   head-turn best r e f =
@@ -175,15 +203,13 @@ module _ (area : List ℕ) (s i : ℕ) (part : List ℕ) (its : part ≡ segment
 
 -- ---- whether the map names a slot of another edition
 
-pub same_first : (L : Layout) → same_layout edition1 L ≡ same_layout L edition1
+-- the test for one edition, which compares the numbers of the variants
+pub same-tested : (K L : Layout) → sameb the_type K L ≡ same_layout K L
 unfolding same_layout
-same_first First = refl
-same_first Second = refl
-
-pub same_second : (L : Layout) → same_layout edition2 L ≡ not (same_layout L edition1)
-unfolding same_layout
-same_second First = refl
-same_second Second = refl
+same-tested First First = refl
+same-tested First Second = refl
+same-tested Second First = refl
+same-tested Second Second = refl
 
 module _ (L : Layout) (v : ℕ → View) (p : ℕ → Bool) (i : ℕ) where
   pub other-skip : p i ≡ false → other_edition L v p i ≡ false → other_edition L v p (i + 1) ≡ false

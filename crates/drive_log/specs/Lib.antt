@@ -1,6 +1,7 @@
 -- What the code of this crate is proved against, beside the model's definitions.
 pub mod Shape
 pub mod Heads
+pub mod Editions
 pub mod Extents
 pub mod Tables
 pub mod Lengths

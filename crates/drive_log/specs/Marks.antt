@@ -1,5 +1,5 @@
 -- Bits over an array of words: that one which is set stays set, and the marks of the suspects, which spare most entries the search.
-use Rattle.std.specs.Prelude.{ℕ, ◌+◌, ◌*◌, ◌/◌, ◌%◌, ◌≤◌, ◌<◌, ◌≡◌, refl, Bool, true, false, List, eqb, length, get_or, set}
+use Rattle.std.specs.Prelude.{ℕ, ◌+◌, ◌*◌, ◌/◌, ◌%◌, ◌<◌, ◌≡◌, refl, Bool, true, false, List, eqb, length, get_or, set}
 use Rattle.std.proofs.Common.{sym, ◌∙◌, ap, arith, length-set, get_or-set_same, get_or-set_other, eqb-true}
 use Rattle.std.proofs.lemmas.Bool.{eqb-false}
 use Rattle.slot_map.specs.Bit.{bit, named, with_bit}
@@ -64,9 +64,6 @@ pub record MarkedTo (i : ℕ) (marks table : List ℕ) : Type 0 where
   pub size : length marks ≡ 64
   pub marked : (c : ℕ) → c < i → has_mark marks (get_or table c 0) ≡ true
 
-pub marked-none : (marks table : List ℕ) → length marks ≡ 64 → MarkedTo 0 marks table
-marked-none marks table size = record { size = size; marked = λ c l. absurd (omega arith) }
-
 mark-inside : (v : ℕ) → mark_of v / 32 < 64
 mark-inside v = omega arith
 
@@ -96,9 +93,6 @@ marked_turn i marks table more h e =
 -- The marks of all cells are set.
 abbrev pub Marked : List ℕ → List ℕ → Type 0
 Marked marks table = MarkedTo (length table) marks table
-
-pub marked-end : (i : ℕ) (marks table : List ℕ) → MarkedTo i marks table → length table ≤ i → Marked marks table
-marked-end i marks table h l = record { size = h.size; marked = λ c k. h.marked c (omega arith) }
 
 -- A version with no mark is no suspect.
 pub unmarked : (marks table : List ℕ) → Marked marks table → (v : ℕ) → has_mark marks v ≡ false → false ≡ holds table v

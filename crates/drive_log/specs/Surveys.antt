@@ -1,12 +1,15 @@
 -- What a walk of the log tells: damage, the highest version, and whether the filter tells all versions apart.
-use Rattle.std.specs.Prelude.{ℕ, ◌+◌, ◌≤◌, ◌<◌, max, ◌≡◌, Bool, length}
+use Rattle.std.specs.Prelude.{ℕ, ◌+◌, ◌≤◌, ◌<◌, max, ◌≡◌, Bool, length, ltb, cond}
 use Rattle.std.proofs.Math.Path.{refl, sym, ap, subst}
 use Rattle.std.proofs.Common.{◌∙◌, ap₂, arith}
 use Rattle.std.proofs.Math.Bool.{true, false}
 use mathlib.Core.List.{List, [], ◌∷◌, ◌++◌, append-nil, append_assoc}
 use Rattle.std.proofs.Math.Decide.{dec_le}
 use Rattle.std.proofs.Math.Dec.{eqb}
-use borrow.Author.Tests.{eqb-true}
+use borrow.Author.Tests.{eqb-true, ltb-true, ltb-false}
+use Rattle.std.specs.Ordering.{is_lt, nat_cmp}
+use Rattle.drive_log.specs.Heads.{lt-tested}
+use Rattle.segment.specs.declared.Version.{Version}
 use Rattle.segment.specs.Choice.{pick}
 use Rattle.segment.proofs.Choice.{both-false-left, both-false-right}
 use Rattle.segment.specs.Layout.{Layout, digest_size}
@@ -18,7 +21,7 @@ use Rattle.laws.specs.Scans.{item_at}
 use Rattle.laws.specs.LogLaws.{placed_at, placed-append}
 use Rattle.laws.specs.Versions.{counted, count, count-shared, highest-append}
 use Rattle.drive_log.specs.Extents.{Meets, rest_of, rest-whole, rest-entry, rest_end, rest-damage, log-take, log-skip, sound-slot, damaged-slot}
-use Rattle.drive_log.specs.Filter.{is_marked, marked_with, length_marked, mark-own, mark-keeps, count-more}
+use Rattle.drive_log.specs.Filter.{is_marked, marked_with, mark-own, mark-keeps, count-more}
 
 -- What has been passed: its highest version, and, as long as the versions are apart, none stands twice and the bit of each is set.
 pub record Told (log : List Placed) (top : ℕ) (apart : Bool) (filter : List ℕ) : Type 0 where
@@ -39,25 +42,6 @@ pub record MarkedApart (filter : List ℕ) (w : ℕ) (apart still : Bool) (filte
   pub was : still ≡ true → apart ≡ true
   pub unset : still ≡ true → is_marked filter w ≡ false
   pub marked : still ≡ true → filter₁ ≡ marked_with filter w
-
-module _ (filter : List ℕ) (w : ℕ) (apart : Bool) (r : Bool) (was-set : r ≡ is_marked filter w) (filter₁ : List ℕ) (now-set : filter₁ ≡ marked_with filter w) where
-  pub apart-lost : MarkedApart filter w apart false filter₁
-  apart-lost =
-      record {
-        size = ap length now-set ∙ length_marked filter w;
-        was = λ q. absurd (clash false q refl);
-        unset = λ q. absurd (clash false q refl);
-        marked = λ q. absurd (clash false q refl);
-      }
-
-  pub apart-kept : r ≡ false → MarkedApart filter w apart apart filter₁
-  apart-kept e =
-      record {
-        size = ap length now-set ∙ length_marked filter w;
-        was = λ q. q;
-        unset = λ q. sym was-set ∙ e;
-        marked = λ q. now-set;
-      }
 
 -- one entry more
 module _ (log : List Placed) (x : Placed) (top : ℕ) (apart : Bool) (filter : List ℕ) (so_far : Told log top apart filter) where
@@ -101,6 +85,14 @@ module _ (log : List Placed) (x : Placed) (top : ℕ) (apart : Bool) (filter : L
           once = λ e. once_more (a.unset e) (a.was e);
           marks = λ e u l. ap (λ (g : List ℕ). is_marked g u) (a.marked e) ∙ marks-more (a.was e) u l;
         }
+
+-- the higher of two versions
+pub higher_is : (a b : Version) → (cond (is_lt (nat_cmp b.0 a.0)) a b).0 ≡ max a.0 b.0
+higher_is a b = go (is_lt (nat_cmp b.0 a.0)) (lt-tested b.0 a.0)
+  where
+    go : (t : Bool) → t ≡ ltb b.0 a.0 → (cond t a b).0 ≡ max a.0 b.0
+    go true e = omega (arith, ltb-true b.0 a.0 (sym e))
+    go false e = omega (arith, ltb-false b.0 a.0 (sym e))
 
 -- ---- the entries of one slot
 

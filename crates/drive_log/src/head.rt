@@ -1,43 +1,48 @@
 // The head of an area, and what causes 17, 25 and 28 ask of the digests. A slot has room for the longer digest, the second edition's.
 ghost use Rattle.std.specs.Prelude.{◌≤◌, ◌≡◌, ltb, length};
-ghost use Rattle.segment.specs.Layout.{edition1, edition2, same_layout, digest_size};
+ghost use Rattle.segment.specs.Layout.{edition2, same_layout, digest_size};
 ghost use Rattle.slot_map.specs.Bit.{named};
 ghost use Rattle.model.specs.Log.{views_of, head_of, newer, digest_in};
 ghost use Rattle.model.specs.Recovery.{has_number, sharing, names_no_digest, other_edition, later_edition};
 ghost use Rattle.drive_log.specs.Shape.{Shape};
-ghost use Rattle.drive_log.specs.Heads.{told, untold};
+ghost use Rattle.drive_log.specs.Heads.{as_option, told, untold};
 
-use crate::HeadFound;
+use crate::FoundHead;
 use crate::slots::is_named;
 use segment::area::cut;
 use segment::reader::{digest, edition_of, is_digest};
-use segment::{DigestNumber, Edition};
+use segment::{Digest, DigestNumber, Edition};
+
+// The digest that a slot's bytes have, if they have one.
+fn digest_in(part: &[u8]) -> Option<Digest>
+    requires { digest_size edition2 ≤ length part.now }
+    ensures { result ≡ as_option (digest_in part.now) }
+{
+    if !is_digest(part) {
+        return None;
+    }
+    Some(digest(edition_of(part), part))
+}
 
 // The later of the newest digest so far and that of a slot whose bytes are `part`.
-fn later(best: HeadFound, slot: usize, part: &[u8]) -> HeadFound
+fn later(best: Option<FoundHead>, slot: usize, part: &[u8]) -> Option<FoundHead>
     requires { digest_size edition2 ≤ length part.now }
     ensures { result ≡ told (newer (untold best) slot (digest_in part.now)) }
 {
-    if !is_digest(part) {
+    let Some(found) = digest_in(part) else {
         return best;
-    }
-    let found = digest(edition_of(part), part);
+    };
     match best {
-        HeadFound::Nothing => HeadFound::At {
+        None => Some(FoundHead {
             slot,
             digest: found,
-        },
-        HeadFound::At {
-            slot: _,
-            digest: top,
-        } => {
-            let highest = top.number;
-            let number = found.number;
-            if highest.0 < number.0 {
-                return HeadFound::At {
+        }),
+        Some(top) => {
+            if top.digest.number < found.number {
+                return Some(FoundHead {
                     slot,
                     digest: found,
-                };
+                });
             }
             best
         }
@@ -45,15 +50,13 @@ fn later(best: HeadFound, slot: usize, part: &[u8]) -> HeadFound
 }
 
 // The slot with the highest digest number.
-pub fn find_head(n: usize, s: usize, area: &[u8]) -> HeadFound
+pub fn find_head(n: usize, s: usize, area: &[u8]) -> Option<FoundHead>
     requires { Shape n s area.now }
     ensures { result ≡ told (head_of (views_of area.now s) n) }
 {
-    let mut best = HeadFound::Nothing;
-    let mut i = 0;
-    while i < n {
-        best = later(best, i, cut(s, area, i));
-        i += 1;
+    let mut best = None;
+    for slot in 0..n {
+        best = later(best, slot, cut(s, area, slot));
     }
     best
 }
@@ -63,15 +66,10 @@ fn has_number(part: &[u8], number: DigestNumber) -> usize
     requires { digest_size edition2 ≤ length part.now }
     ensures { result ≡ has_number (digest_in part.now) number.0 }
 {
-    if !is_digest(part) {
-        return 0;
+    match digest_in(part) {
+        Some(found) => usize::from(found.number == number),
+        None => 0,
     }
-    let found = digest(edition_of(part), part);
-    let own = found.number;
-    if own.0 == number.0 {
-        return 1;
-    }
-    0
 }
 
 // Whether more than one slot has a digest of that number.
@@ -80,10 +78,8 @@ pub fn shared_number(n: usize, s: usize, area: &[u8], number: DigestNumber) -> b
     ensures { result ≡ ltb 1 (sharing (views_of area.now s) number.0 n) }
 {
     let mut count = 0;
-    let mut i = 0;
-    while i < n {
-        count += has_number(cut(s, area, i), number);
-        i += 1;
+    for slot in 0..n {
+        count += has_number(cut(s, area, slot), number);
     }
     1 < count
 }
@@ -93,10 +89,7 @@ pub fn names_no_digest(n: usize, s: usize, area: &[u8], map: u32) -> bool
     requires { Shape n s area.now }
     ensures { result ≡ names_no_digest (views_of area.now s) (named map) n }
 {
-    let mut i = 0;
-    while i < n {
-        let slot = i;
-        i += 1;
+    for slot in 0..n {
         if !is_named(map, slot) {
             continue;
         }
@@ -111,19 +104,7 @@ pub fn names_no_digest(n: usize, s: usize, area: &[u8], map: u32) -> bool
 pub fn same_edition(a: Edition, b: Edition) -> bool
     ensures { result ≡ same_layout a b }
 {
-    match a {
-        Edition::First => is_first(b),
-        Edition::Second => !is_first(b),
-    }
-}
-
-fn is_first(edition: Edition) -> bool
-    ensures { result ≡ same_layout edition edition1 }
-{
-    match edition {
-        Edition::First => true,
-        Edition::Second => false,
-    }
+    a == b
 }
 
 // Whether the map names a slot of another edition.
@@ -131,10 +112,7 @@ pub fn names_other_edition(edition: Edition, n: usize, s: usize, area: &[u8], ma
     requires { Shape n s area.now }
     ensures { result ≡ other_edition edition (views_of area.now s) (named map) n }
 {
-    let mut i = 0;
-    while i < n {
-        let slot = i;
-        i += 1;
+    for slot in 0..n {
         if !is_named(map, slot) {
             continue;
         }

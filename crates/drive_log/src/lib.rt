@@ -4,6 +4,7 @@
 
 use segment::{Digest, Version};
 
+mod editions;
 mod filter;
 pub mod head;
 mod hits;
@@ -17,11 +18,11 @@ mod suspects;
 mod table;
 pub mod versions;
 
-// The head's slot and digest, or that no slot has a digest.
+// The head: its slot and its digest.
 #[derive(Clone, Copy)]
-pub enum HeadFound {
-    Nothing,
-    At { slot: usize, digest: Digest },
+pub struct FoundHead {
+    pub slot: usize,
+    pub digest: Digest,
 }
 
 // What a walk of the log has passed: whether it was undamaged, its highest version, 0 where it is empty, and whether the filter

@@ -41,10 +41,8 @@ pub fn mark_all(marks: &mut [u32], table: &[u64])
     requires table_len { length table.now ≡ 192 }
     ensures { Marked marks.new table.now }
 {
-    let mut i = 0;
-    while i < table.len() {
-        set_mark(marks, Version(table[i]));
-        i += 1;
+    for cell in table {
+        set_mark(marks, Version(*cell));
     }
 }
 

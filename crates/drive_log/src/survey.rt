@@ -43,10 +43,7 @@ pub fn survey(n: usize, s: usize, area: &[u8], map: u32) -> Passed
         highest: Version(0),
         apart: true,
     };
-    let mut i = 0;
-    while i < n {
-        let slot = i;
-        i += 1;
+    for slot in 0..n {
         if !is_named(map, slot) {
             continue;
         }

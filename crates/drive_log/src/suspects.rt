@@ -26,10 +26,7 @@ fn count(n: usize, s: usize, area: &[u8], map: u32, marks: &[u32], table: &[u64]
     ensures { result ≡ hits table.now (log_of (views_of area.now s) (named map) n) }
 {
     let mut total = 0;
-    let mut i = 0;
-    while i < n {
-        let slot = i;
-        i += 1;
+    for slot in 0..n {
         if !is_named(map, slot) {
             continue;
         }

@@ -1,7 +1,6 @@
 // The table of suspects: 192 cells in ascending order, so that a search by halves finds a version and no choice of versions leaves
 // cells unused. The empty ones are last and have the highest number, which is no entry's version.
 ghost use Rattle.std.specs.Prelude.{◌+◌, ◌≤◌, ◌<◌, ◌≡◌, length, get_or};
-ghost use Rattle.segment.specs.Choice.{pick};
 ghost use Rattle.drive_log.specs.Tables.{vacant, holds, occupied, Empty, Sorted, Between, Halved, Put};
 
 use segment::Version;
@@ -9,22 +8,13 @@ use segment::Version;
 // What an empty cell has.
 pub const VACANT: u64 = 18446744073709551615;
 
-// 1 for true, 0 for false.
-pub fn one(told: bool) -> usize
-    ensures { result ≡ pick told 1 0 }
-{
-    if told { 1 } else { 0 }
-}
-
 // How many cells are not empty.
 pub fn occupied(table: &[u64]) -> usize
     ensures { result ≡ occupied table.now }
 {
     let mut count = 0;
-    let mut i = 0;
-    while i < table.len() {
-        count += one(table[i] < VACANT);
-        i += 1;
+    for cell in table {
+        count += usize::from(*cell < VACANT);
     }
     count
 }
@@ -34,11 +24,7 @@ pub fn clear(table: &mut [u64])
     requires { length table.old ≡ 192 }
     ensures { Empty table.new }
 {
-    let mut i = 0;
-    while i < table.len() {
-        table[i] = VACANT;
-        i += 1;
-    }
+    table.fill(VACANT);
 }
 
 // How many cells are below a version: by halves, quickly where versions rise, for its branches are then foreseen.
@@ -46,6 +32,7 @@ pub fn search(table: &[u64], version: Version) -> usize
     requires { Sorted table.now }
     ensures { Between table.now version.0 result result }
 {
+    // The library has no `partition_point`, and its `binary_search` may name any of several equal cells.
     let mut low = 0;
     let mut high = table.len();
     while low < high {
@@ -65,7 +52,7 @@ fn pass_over(table: &[u64], version: Version, low: usize, size: usize) -> usize
     requires size_nonzero { (0 < size) × (low + size ≤ 192) }
     ensures { Halved table.now version.0 low size result }
 {
-    low + size * one(table[low + size - 1] < version.0)
+    low + size * usize::from(table[low + size - 1] < version.0)
 }
 
 // The same as `search`, for versions in any order. The steps are written out, so that no branch waits for a cell: 65 of 192 cells
@@ -104,6 +91,7 @@ pub fn insert(table: &mut [u64], version: Version, at: usize)
     requires table_value { get_or table.old 191 0 ≡ vacant }
     ensures { Put table.old version.0 table.new }
 {
+    // By hand: the library's shifts move the empty cells too, and where versions rise no cell moves here.
     let mut carried = version.0;
     let mut cell = at;
     while carried != VACANT {

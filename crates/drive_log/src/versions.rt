@@ -90,10 +90,7 @@ fn search_shared(n: usize, s: usize, area: &[u8], map: u32) -> bool
 {
     let mut filter = [0u32; 512];
     let mut table = [VACANT; 192];
-    let mut i = 0;
-    while i < n {
-        let slot = i;
-        i += 1;
+    for slot in 0..n {
         if !is_named(map, slot) {
             continue;
         }

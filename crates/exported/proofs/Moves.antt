@@ -1,4 +1,5 @@
 -- One law for each exported call: its contract is a transition of the runs.
+use Rattle.std.specs.Prelude.{Ok, Err}
 use Prim.Native.Nat.{ℕ, ◌≤◌}
 use mathlib.Core.Path.{◌≡◌, refl, sym, ap, ap₂, ◌∙◌, subst}
 use mathlib.Core.Bool.{Bool, true, false, not}
@@ -15,18 +16,10 @@ use Rattle.record.specs.RangeLaws.{blank-unfit, blank-out}
 use Rattle.record.specs.Switch.{switch_said}
 use Rattle.record.specs.Refusals.{number_of_refusal}
 use Rattle.record.specs.declared.Record.{Record}
-use Rattle.record.specs.declared.ReadAnswer.{ReadAnswer}
-use Rattle.record.specs.declared.ConvertAnswer.{ConvertAnswer}
-use Rattle.record.specs.declared.RecoverAnswer.{RecoverAnswer}
+use Rattle.record.specs.Answered.{ReadAnswer, ConvertAnswer, RecoverAnswer, StartAnswer, Stepped, StepAnswer, FewestAnswer, SwitchAnswer, Switching, TellAnswer}
+use Rattle.record.specs.declared.Progress.{Progress}
 use Rattle.record.specs.declared.Refusal.{Refusal}
 use Rattle.record.specs.declared.Refusal.TheVariants.{BadRecord}
-use Rattle.record.specs.declared.StartAnswer.{StartAnswer}
-use Rattle.record.specs.declared.Stepped.{Stepped}
-use Rattle.record.specs.declared.StepAnswer.{StepAnswer}
-use Rattle.record.specs.declared.FewestAnswer.{FewestAnswer}
-use Rattle.record.specs.declared.SwitchAnswer.{SwitchAnswer}
-use Rattle.record.specs.declared.Switching.{Switching}
-use Rattle.record.specs.declared.TellAnswer.{TellAnswer}
 use Rattle.model.proofs.Arguments.{typed-key, typed-write, typed-delete, typed-clean}
 use Rattle.model.specs.Operations.{Operation, write, delete, clean, Typed}
 use Rattle.record.specs.declared.Tables.{Tables}
@@ -70,18 +63,18 @@ start-said :
     (a : StartAnswer) (stores stores' number : ℕ) → number ≡ (start_said a).refused → stores' ≡ stores_after a stores →
     start_said a ≡ number_said number (taken_with stores')
 unfolding stores_after
-start-said (StartAnswer.Started k) stores stores' number e f = ap taken_with (sym f) ∙ taken-said number (taken_with stores') e
-start-said (StartAnswer.Refused c) stores stores' number e f = refused-said c number (taken_with stores') e
+start-said (Ok k) stores stores' number e f = ap taken_with (sym f) ∙ taken-said number (taken_with stores') e
+start-said (Err c) stores stores' number e f = refused-said c number (taken_with stores') e
 
 step-said :
     (a : StepAnswer) (left left' version version' number : ℕ) → number ≡ (step_said a).refused → left' ≡ left_told a left →
     version' ≡ told_after a version → step_said a ≡ number_said number (step_told left' version')
 unfolding left_told told_after
-step-said (StepAnswer.Left k) left left' version version' number e f g =
+step-said (Ok (Progress.Left k)) left left' version version' number e f g =
     ap₂ step_told (sym f) (sym g) ∙ taken-said number (step_told left' version') e
-step-said (StepAnswer.Done v) left left' version version' number e f g =
+step-said (Ok (Progress.Done v)) left left' version version' number e f g =
     ap₂ step_told (sym f) (sym g) ∙ taken-said number (step_told left' version') e
-step-said (StepAnswer.Refused c) left left' version version' number e f g = refused-said c number (step_told left' version') e
+step-said (Err c) left left' version version' number e f g = refused-said c number (step_told left' version') e
 
 pub read-said :
     (a : ReadAnswer) (version kind number : ℕ) → number ≡ (read_said a).refused → version ≡ (read_said a).version → kind ≡ (read_said a).kind →
@@ -89,37 +82,37 @@ pub read-said :
 read-said a version kind number e f g = no_stores a ∙ (λ i. read_told (sym e i) (sym f i) (sym g i))
   where
     no_stores : (a : ReadAnswer) → read_said a ≡ read_told (read_said a).refused (read_said a).version (read_said a).kind
-    no_stores (ReadAnswer.Present v k) = refl
-    no_stores (ReadAnswer.Refused c) = refl
+    no_stores (Ok s) = refl
+    no_stores (Err c) = refl
 
 store_told_lem :
     (a : TellAnswer) (place byte number : ℕ) → number ≡ (tell_said a).refused → place ≡ place_told a → byte ≡ byte_told a →
     telling a ≡ store_told number place byte
 unfolding place_told byte_told pick
-store_told_lem (TellAnswer.At p b) place byte number e f g = λ i. store_told (sym e i) (sym f i) (sym g i)
-store_told_lem (TellAnswer.Refused c) place byte number e f g =
+store_told_lem (Ok s) place byte number e f g = λ i. store_told (sym e i) (sym f i) (sym g i)
+store_told_lem (Err c) place byte number e f g =
     sym (pick-false (eqb (number_of_refusal c) 0) (record { said = taken; value = byte ∷ []; place = place }) (saying (refusal (number_of_refusal c))) (refusal-number c)) ∙
     ap (λ (k : ℕ). store_told k place byte) (sym e)
 
 slot-told :
     (a : FewestAnswer) (slot number : ℕ) → number ≡ (fewest_said a).refused → slot ≡ Crossing.slot_told a → naming a ≡ slot_told number slot
 unfolding Crossing.slot_told pick
-slot-told (FewestAnswer.Slot i) slot number e f = λ j. slot_told (sym e j) (sym f j)
-slot-told (FewestAnswer.Refused c) slot number e f =
+slot-told (Ok i) slot number e f = λ j. slot_told (sym e j) (sym f j)
+slot-told (Err c) slot number e f =
     sym (pick-false (eqb (number_of_refusal c) 0) (record { said = taken; value = slot ∷ []; place = 0 }) (saying (refusal (number_of_refusal c))) (refusal-number c)) ∙
     ap (λ (k : ℕ). slot_told k slot) (sym e)
 
 switch-said : (a : SwitchAnswer) (number : ℕ) → number ≡ (switch_said a).refused → switch_said a ≡ number_said number taken
-switch-said SwitchAnswer.Switched number e = taken-said number taken e
-switch-said (SwitchAnswer.Refused c) number e = refused-said c number taken e
+switch-said (Ok u) number e = taken-said number taken e
+switch-said (Err c) number e = refused-said c number taken e
 
 convert_said_lem : (a : ConvertAnswer) (number : ℕ) → number ≡ (convert_said a).refused → convert_said a ≡ number_said number taken
-convert_said_lem ConvertAnswer.Converted number e = taken-said number taken e
-convert_said_lem (ConvertAnswer.Refused c) number e = refused-said c number taken e
+convert_said_lem (Ok u) number e = taken-said number taken e
+convert_said_lem (Err c) number e = refused-said c number taken e
 
 recover-said : (a : RecoverAnswer) (number : ℕ) → number ≡ (recover_said a).refused → recover_said a ≡ number_said number taken
-recover-said RecoverAnswer.Recovered number e = taken-said number taken e
-recover-said (RecoverAnswer.Refused c) number e = refused-said c number taken e
+recover-said (Ok u) number e = taken-said number taken e
+recover-said (Err c) number e = refused-said c number taken e
 
 -- ---- words: what is handed back is what they say afterwards
 
@@ -345,15 +338,15 @@ module _ (n s : ℕ) where
   module _ (m : Memory) (cells' words words' : List ℕ) (rec : Record) (number : ℕ) (long : record_words ≤ length words) where
     world-after :
         (a : RecoverAnswer) → number ≡ (recover_said a).refused → words' ≡ words_after a words rec →
-        (a ≡ RecoverAnswer.Recovered → length rec.counts ≡ 32) → recovered_world (world_of m) cells' (record { answer = a; rec = rec }) ≡ world_of (recovered_memory m cells' words' number)
+        (a ≡ (Ok tt) → length rec.counts ≡ 32) → recovered_world (world_of m) cells' (record { answer = a; rec = rec }) ≡ world_of (recovered_memory m cells' words' number)
     unfolding pick words_after
-    world-after RecoverAnswer.Recovered e w full =
+    world-after (Ok u) e w full =
         (λ i. record { area = m.area; held = some (record { rec = sym says i; cells = cells'; work = [] }); cells = some (length cells') }) ∙
         ap (λ (x : ℕ). world_of (recovered_memory m cells' words' x)) (sym e)
       where
         says : (decoded words').rec ≡ rec
         says = ap (λ (l : List ℕ). (decoded l).rec) w ∙ ap (λ (d : Decoded). d.rec) (decode-encode rec words (full refl) long)
-    world-after (RecoverAnswer.Refused c) e w full =
+    world-after (Err c) e w full =
         rw (refusal-number c) (by-twenty (eqb (number_of_refusal c) 20)) ∙ ap (λ (x : ℕ). world_of (recovered_memory m cells' words' x)) (sym e)
       where
         by-twenty :

@@ -1,4 +1,5 @@
 -- Demand 3 for the exported calls, from demand 3 for the store.
+use Rattle.std.specs.Prelude.{Ok, Err}
 use Prim.Native.Nat.{ℕ, ◌≤◌}
 use native.Mathlib.Omega.{arith}
 use mathlib.Core.Path.{◌≡◌, refl, sym, ap, ◌∙◌, subst}
@@ -13,11 +14,8 @@ use Rattle.record.specs.Answers.{format_said, recover_said, read_said}
 use Rattle.record.specs.Refusals.{number_of_refusal}
 use Rattle.record.specs.Reach.{holds_table}
 use Rattle.record.specs.declared.Tables.{Tables}
-use Rattle.record.specs.declared.FormatAnswer.{FormatAnswer}
-use Rattle.record.specs.declared.Reading.{Reading}
-use Rattle.record.specs.declared.ReadAnswer.{ReadAnswer}
+use Rattle.record.specs.Answered.{FormatAnswer, Reading, ReadAnswer, RecoverAnswer}
 use Rattle.record.specs.declared.Record.{Record}
-use Rattle.record.specs.declared.RecoverAnswer.{RecoverAnswer}
 use Rattle.model.proofs.Arguments.{typed-key}
 use Rattle.model.specs.Promises.{FormatPromise, ReadPromise, ValuePromise}
 use Rattle.laws.specs.CauseLaws.{refusal-number}
@@ -34,15 +32,15 @@ use Rattle.exported.specs.Demand3.{WordsGiveBook, Demand3Exported}
 use Rattle.exported.proofs.Moves.{read-said, exported-run}
 
 -- what returned 0 was accepted
-format-accepted : (a : FormatAnswer) → 0 ≡ (format_said a).refused → a ≡ FormatAnswer.Formatted
-format-accepted FormatAnswer.Formatted e = refl
-format-accepted (FormatAnswer.Refused c) e = absurd (never (sym (eq-eqb (number_of_refusal c) 0 (sym e)) ∙ refusal-number c))
+format-accepted : (a : FormatAnswer) → 0 ≡ (format_said a).refused → a ≡ (Ok tt)
+format-accepted (Ok u) e = refl
+format-accepted (Err c) e = absurd (never (sym (eq-eqb (number_of_refusal c) 0 (sym e)) ∙ refusal-number c))
   where
     never : ◌≡◌ {A = Bool} true false → ⊥
     never p = let z : ◌≡◌ {A = ℕ} 0 1 = cc in absurd (omega arith)
 
 pub format-promised :
-    (L : Layout) (n s : ℕ) (area₀ area : List ℕ) → FormatCrossed (number_of_layout L) n s area₀ area 0 → FormatPromise (number_of_layout L) n s area₀ area FormatAnswer.Formatted
+    (L : Layout) (n s : ℕ) (area₀ area : List ℕ) → FormatCrossed (number_of_layout L) n s area₀ area 0 → FormatPromise (number_of_layout L) n s area₀ area (Ok tt)
 format-promised L n s area₀ area f =
     subst (λ (a : FormatAnswer). FormatPromise (number_of_layout L) n s area₀ area a) (format-accepted f.answer f.numbered) f.promised
 

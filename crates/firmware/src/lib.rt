@@ -5,11 +5,16 @@
 ghost use Rattle.model.specs.Promises.{StepPromise};
 ghost use Rattle.stepping.specs.Tested.{StepTested};
 
-use record::{Record, StepAnswer, Stepped};
+use record::{Answered, Progress, Record, Refusal, Stepped};
 use stepping::step;
 
 // One step of the pending operation, as `step` makes it; the record behind `rec` becomes the one that `step` hands back.
-pub fn step_kept(rec: &mut Record, area: &mut [u8], index: &mut [u32], work: &[u8]) -> StepAnswer
+pub fn step_kept(
+    rec: &mut Record,
+    area: &mut [u8],
+    index: &mut [u32],
+    work: &[u8],
+) -> Result<Progress, Refusal>
     ensures { StepPromise rec.old.edition rec.old area.old area.new index.old index.new work.now
         (record { answer = result; rec = rec.new })
         × StepTested rec.old.edition rec.old area.old area.new index.old index.new work.now
@@ -28,5 +33,5 @@ pub fn step_held(rec: Record, area: &mut [u8], index: &mut [u32], work: &[u8]) -
 {
     let mut kept = rec;
     let answer = step_kept(&mut kept, area, index, work);
-    Stepped { answer, rec: kept }
+    Answered { answer, rec: kept }
 }

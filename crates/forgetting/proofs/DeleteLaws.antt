@@ -1,6 +1,6 @@
 -- From what the code decides and lays down to the promise of a delete.
 -- What is proved of the definitions in `specs/DeleteLaws.antt`.
-use Rattle.std.specs.Prelude.{ℕ, ◌+◌, ◌*◌, ◌/◌, ◌^◌, ◌≤◌, ◌<◌, ◌≡◌, List, ◌++◌, replicate}
+use Rattle.std.specs.Prelude.{ℕ, ◌+◌, ◌*◌, ◌/◌, ◌^◌, ◌≤◌, ◌<◌, ◌≡◌, List, ◌++◌, replicate, Ok, Err}
 use Rattle.std.proofs.Math.Path.{refl, sym, ap}
 use Rattle.std.proofs.Common.{◌∙◌, subst, zero-add, arith, length-append}
 use Rattle.std.proofs.Math.Bool.{Bool, true, false, not}
@@ -25,7 +25,7 @@ use Rattle.record.specs.Switch.{new_layout, as_recovered}
 use Rattle.record.specs.declared.Pending.TheVariants.{Forget}
 use Rattle.record.specs.declared.Refusal.{Refusal}
 use Rattle.record.specs.declared.Refusal.TheVariants.{BadRecord}
-use Rattle.record.specs.declared.Start.{Start}
+use Rattle.record.specs.Answered.{Start}
 use Rattle.record.specs.declared.Record.{Record}
 use Rattle.record.specs.declared.Tables.{Tables}
 use Rattle.model.specs.Log.{Placed, place_of, present, highest}
@@ -36,7 +36,6 @@ use Rattle.model.specs.Promises.{Genuine, Begun, begun, lent_lengths, StartPromi
 use Rattle.laws.specs.RecoverLaws.{recovered-highest}
 use Rattle.index.specs.Search.{search_for}
 use Rattle.index.specs.declared.Found.{Found}
-use Rattle.starting.specs.declared.Check.{Check}
 use Rattle.starting.specs.Checks.{checked}
 use Rattle.starting.specs.CheckLaws.{checked-some, checked-none}
 use Rattle.starting.specs.Stores.{head-stores}
@@ -124,11 +123,11 @@ module _ (W : Layout) (r : Record) (victims : ℕ) (work bytes : List ℕ) where
   abbrev decided : Option Refusal
   decided = first_cause (full_tests r (not (fits_segment W r.size bytes)))
 
-  fitting-begun : Check.Passed ≡ checked decided → forgot_fitting W r victims work bytes ≡ forgot_begun W r victims work bytes
+  fitting-begun : Ok tt ≡ checked decided → forgot_fitting W r victims work bytes ≡ forgot_begun W r victims work bytes
   unfolding forgot_fitting forgot_by
   fitting-begun e = ap (forgot_by W r victims work bytes) (checked-none decided e)
 
-  fitting-refused : (c : Refusal) → Check.Refused c ≡ checked decided →
+  fitting-refused : (c : Refusal) → Err c ≡ checked decided →
       forgot_fitting W r victims work bytes ≡ record { start = refused_start r c; work = work }
   unfolding forgot_fitting forgot_by
   fitting-refused c e = ap (forgot_by W r victims work bytes) (checked-some decided c e)
@@ -160,14 +159,14 @@ module _ {L W : Layout} {r : Record} {area marks work : List ℕ} {split : Split
   same_check : checked (first_cause (full_tests r (not t))) ≡ checked (first_cause (full_tests r (not (fits_segment W r.size (own_bytes W)))))
   same_check = ap (λ (u : Bool). checked (first_cause (full_tests r (not u)))) (sym told)
 
-  pub live-begun : Check.Passed ≡ checked (first_cause (full_tests r (not t))) → {b : Begun} →
+  pub live-begun : Ok tt ≡ checked (first_cause (full_tests r (not t))) → {b : Begun} →
       b ≡ forgot_begun W r split.victims work (forgot_slot K W area cells marks live split.size slot) →
       b ≡ forgot_fitting (new_layout r) r split.victims work (own_bytes (new_layout r))
   live-begun p h =
       h ∙ ap (forgot_begun W r split.victims work) same_bytes
       ∙ sym (fitting-begun W r split.victims work (own_bytes W) (p ∙ same_check)) ∙ in-new
 
-  pub live-refused : (c : Refusal) → Check.Refused c ≡ checked (first_cause (full_tests r (not t))) → (a : Start) → a ≡ refused_start r c →
+  pub live-refused : (c : Refusal) → Err c ≡ checked (first_cause (full_tests r (not t))) → (a : Start) → a ≡ refused_start r c →
       record { start = a; work = work } ≡ forgot_fitting (new_layout r) r split.victims work (own_bytes (new_layout r))
   live-refused c p a is =
       ap (λ (s : Start). record { start = s; work = work }) is
@@ -347,7 +346,7 @@ unfolding is_none
 some_of none e = let z : ◌≡◌ {A = ℕ} 0 1 = cc in absurd (omega arith)
 some_of (some x) e = (x, refl)
 
-module _ (L : Layout) (t : Tables) (r : Record) (area cells work : List ℕ) (k : Key) (passed : Check.Passed ≡ presents L t r area cells work k) where
+module _ (L : Layout) (t : Tables) (r : Record) (area cells work : List ℕ) (k : Key) (passed : Ok tt ≡ presents L t r area cells work k) where
   tests : PresentPassed L r (lent_lengths area cells work) (facts_for area cells k)
   tests = deleted L t r area cells work k passed
 

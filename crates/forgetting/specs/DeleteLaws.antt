@@ -14,7 +14,7 @@ use Rattle.segment.specs.Digest.{encoded_digest}
 use Rattle.segment.proofs.DigestLaws.{length-encoded_digest}
 use Rattle.segment.specs.declared.Digest.{Digest}
 use Rattle.record.specs.declared.Pending.TheVariants.{Forget}
-use Rattle.record.specs.declared.Start.{Start}
+use Rattle.record.specs.Answered.{Start}
 use Rattle.record.specs.declared.Record.{Record}
 use Rattle.model.specs.Operations.{new_slot, digest_with, next_after}
 use Rattle.starting.specs.Stores.{head_stores}

@@ -29,7 +29,6 @@ use segment::reader::edition_of;
 use segment::writer::write_digest;
 use segment::{Edition, Key, Version};
 use slot_map::{next_free, with_slot};
-use starting::Check;
 use starting::answer::{refused, started};
 use starting::digest::new_digest;
 use starting::stores::head_stores;
@@ -110,8 +109,8 @@ fn forget_live(
     let edition = edition_of(cut(split.size, area, slot));
     let fits = fits_segment(edition, into, area, index, marks, live, split, slot);
     match check_full(rec, fits) {
-        Check::Refused(c) => refused(rec, c),
-        Check::Passed => begin(
+        Err(c) => refused(rec, c),
+        Ok(()) => begin(
             rec, edition, into, area, index, marks, work, live, split, slot,
         ),
     }

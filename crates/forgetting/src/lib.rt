@@ -10,7 +10,7 @@ pub mod room;
 pub mod start;
 
 // A live object that is to go: the place where it stands, whether a tombstone is needed there, and the tombstone's key and
-// version.
+// version. `needed` is a flag beside these two, and no Option around them: they are known whether it is needed or not.
 #[derive(Clone, Copy)]
 pub struct Live {
     pub place: usize,

@@ -7,7 +7,6 @@ use crate::forget::forget;
 use record::{Record, Start, Tables};
 use segment::Key;
 use segment::layout::{head_size, tombstone_kind};
-use starting::Check;
 use starting::answer::{refused, started};
 use writing::causes::{check_delete, check_number, no_room};
 use writing::lay::lay_entry;
@@ -27,15 +26,15 @@ pub fn delete(
 {
     let edition = rec.edition;
     match check_delete(rec, area, index, work.len(), tables, key) {
-        Check::Refused(c) => refused(rec, c),
-        Check::Passed => {
+        Err(c) => refused(rec, c),
+        Ok(()) => {
             let length = head_size(edition);
             if no_room(rec, length) {
                 return forget(rec, area, index, work, key);
             }
             match check_number(rec, length) {
-                Check::Refused(c) => refused(rec, c),
-                Check::Passed => {
+                Err(c) => refused(rec, c),
+                Ok(()) => {
                     let laying = lay_entry(rec, work, tombstone_kind(edition), key, &area[0..0]);
                     let pending = laying.pending;
                     started(rec, pending, laying.left)

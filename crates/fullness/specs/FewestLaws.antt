@@ -1,5 +1,5 @@
 -- Why going down through the slots finds the lowest of those with the fewest bytes.
-use Rattle.std.specs.Prelude.{ℕ, zero, suc, ◌+◌, ◌-◌, ◌*◌, ◌≤◌, ◌<◌, ◌≡◌, Bool, not, List, [], ◌∷◌, ◌⊎◌, get_or}
+use Rattle.std.specs.Prelude.{ℕ, zero, suc, ◌+◌, ◌-◌, ◌*◌, ◌≤◌, ◌<◌, ◌≡◌, Bool, not, List, [], ◌∷◌, ◌⊎◌, get_or, Ok, Err}
 use Rattle.std.proofs.Math.Path.{refl, sym}
 use Rattle.std.proofs.Common.{ap, subst, ◌∙◌, inl, inr, arith}
 use Rattle.std.proofs.Math.Bool.{true, false}
@@ -15,8 +15,7 @@ use Rattle.record.specs.Answers.{taken, said_by, told_by, fewest_said, fewest_to
 use Rattle.record.specs.Range.{in_range, lengths_own, fits_lent}
 use Rattle.record.specs.RangeLaws.{Lent, lent}
 use Rattle.record.specs.declared.Record.{Record}
-use Rattle.record.specs.declared.Fewest.{Fewest}
-use Rattle.record.specs.declared.FewestAnswer.{FewestAnswer}
+use Rattle.record.specs.Answered.{Fewest, FewestAnswer}
 use Rattle.record.specs.declared.Refusal.{Refusal}
 use Rattle.record.specs.declared.Refusal.TheVariants.{BadRecord}
 use Rattle.model.specs.Causes.{first_cause}
@@ -176,7 +175,7 @@ accepted : (L : Layout) (r : Record) → in_range L r ≡ true → first_cause (
 unfolding first_cause
 accepted L r e = pick-false (not (in_range L r)) _ _ (ap not e)
 
-pub refused-promise : (L : Layout) (r : Record) → in_range L r ≡ false → FewestPromise L r (record { answer = FewestAnswer.Refused BadRecord; rec = r })
+pub refused-promise : (L : Layout) (r : Record) → in_range L r ≡ false → FewestPromise L r (record { answer = Err BadRecord; rec = r })
 unfolding fewest_answer said_by told_by
 refused-promise L r e =
     record {
@@ -187,12 +186,12 @@ refused-promise L r e =
     }
 
 pub told-promise : (L : Layout) (r : Record) (slot : ℕ) → in_range L r ≡ true → slot ≡ fewest_slot r
-    → FewestPromise L r (record { answer = FewestAnswer.Slot slot; rec = r })
+    → FewestPromise L r (record { answer = Ok slot; rec = r })
 unfolding fewest_answer said_by told_by
 told-promise L r slot e q =
     record {
       hands-back = refl;
-      answers = rw (accepted L r e) (ap (λ (i : ℕ). FewestAnswer.Slot i) q);
+      answers = rw (accepted L r e) (ap (λ (i : ℕ). Ok i) q);
       says = rw (accepted L r e);
       tells = rw (accepted L r e) (ap (λ (i : ℕ). i ∷ []) q);
     }

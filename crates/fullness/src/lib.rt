@@ -7,7 +7,7 @@ ghost use Rattle.model.specs.Fewest.{has_fewest, lowest_from, FewestPromise};
 ghost use Rattle.fullness.specs.FewestLaws.{fewer};
 
 use record::range::in_range;
-use record::{Fewest, FewestAnswer, Record, Refusal};
+use record::{Answered, Fewest, Record, Refusal};
 use slot_map::has_slot;
 
 // Slot i where the map names it and it has no more bytes than the slot held so far, which is above it.
@@ -30,9 +30,7 @@ pub fn fewest_slot(slots: u32, head: u32, map: u32, counts: &[u32]) -> u32
     ensures { result ≡ lowest_from (has_fewest slots map counts.now) 0 slots }
 {
     let mut held = head as usize;
-    let mut i = slots as usize;
-    while 0 < i {
-        i -= 1;
+    for i in (0..slots as usize).rev() {
         held = fewer_of(map, counts, i, held);
     }
     held as u32
@@ -42,15 +40,15 @@ pub fn fewest_present(rec: Record) -> Fewest
     ensures { FewestPromise rec.edition rec result }
 {
     if !in_range(rec) {
-        return Fewest {
-            answer: FewestAnswer::Refused(Refusal::BadRecord),
+        return Answered {
+            answer: Err(Refusal::BadRecord),
             rec,
         };
     }
     let counts = rec.counts;
     let slot = fewest_slot(rec.slots, rec.head, rec.map, &counts);
-    Fewest {
-        answer: FewestAnswer::Slot(slot),
+    Answered {
+        answer: Ok(slot),
         rec,
     }
 }

@@ -1,6 +1,6 @@
 -- 01, "The book of a list", for the two keys of the rig: what a history leaves once its letters have counted.
-use Rattle.std.specs.Prelude.{ℕ, ◌+◌, ◌≤◌, min, ◌≡◌, Bool, true, false, eqb}
-use Rattle.std.proofs.Common.{arith, ne_eqb}
+use Rattle.std.specs.Prelude.{ℕ, ◌+◌, min, ◌≡◌, refl, Bool, true, false, not, eqb}
+use mir.Val.{bool_byte}
 use Rattle.segment.specs.Choice.{pick}
 use Rattle.segment.specs.declared.Key.{Key}
 use Rattle.histories.specs.declared.Letter.{Letter}
@@ -42,18 +42,11 @@ one_if version = pick (eqb version 0) 0 1
 abbrev pub count_of : Book → ℕ
 count_of b = one_if b.first.version + one_if b.second.version
 
-pub one_none : (v : ℕ) → v ≡ 0 → 0 ≡ one_if v
+-- the code's test, as a number
+pub one-tested : (v : ℕ) → bool_byte (not (eqb v 0)) ≡ one_if v
 unfolding one_if pick
-one_none v e = rw e
-
-pub one-some : (v : ℕ) → (v ≡ 0 → ⊥) → 1 ≡ one_if v
-unfolding one_if pick
-one-some v h = rw (ne_eqb v 0 h)
-
-pub one-most : (v : ℕ) → one_if v ≤ 1
-unfolding one_if pick
-one-most v = go (eqb v 0)
+one-tested v = go (eqb v 0)
   where
-    go : (t : Bool) → pick t 0 1 ≤ 1
-    go true = omega arith
-    go false = omega arith
+    go : (t : Bool) → bool_byte (not t) ≡ pick t 0 1
+    go true = refl
+    go false = refl

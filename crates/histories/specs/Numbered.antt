@@ -1,5 +1,5 @@
 -- Words by their numbers: the digits of a number to base 5 are the letters' numbers, the first letter's the highest.
-use Rattle.std.specs.Prelude.{ℕ, zero, suc, ◌+◌, ◌-◌, ◌*◌, ◌/◌, ◌%◌, ◌^◌, ◌≤◌, ◌<◌, ◌≡◌, refl, Bool, true, false, List, [], ◌∷◌, ◌++◌, length, set}
+use Rattle.std.specs.Prelude.{ℕ, zero, suc, ◌+◌, ◌*◌, ◌/◌, ◌%◌, ◌^◌, ◌≤◌, ◌<◌, ◌≡◌, refl, Bool, true, false, List, [], ◌∷◌, ◌++◌, length, set}
 use Rattle.std.proofs.Math.Path.{sym, ap}
 use Rattle.std.proofs.Common.{ap₂, ◌∙◌, subst, append_assoc, append-nil, add-zero, add_comm, mod-eq_of_lt, add_assoc, suc-add, zero-lt-suc, zero-add, add-one, arith, length-append}
 use Rattle.std.proofs.Math.Nat.{pow-succ', add-mul-mod_self_right, one-le-pow, add-mul-div_right, div-eq_of_lt, pow-le-pow_right}
@@ -79,72 +79,77 @@ words-numbered (suc k) = blocks k (5 ^ k) refl (words-numbered k) ∙ ap (λ (x 
 
 -- ---- what the loops of the code keep
 
-pub word_first : (k n : ℕ) → 0 < k → word k n ≡ letter_of (n / 5 ^ (k - 1)) ∷ word (k - 1) (n % 5 ^ (k - 1))
+pub length-word : (k n : ℕ) → length (word k n) ≡ k
 unfolding word
-word_first zero n h = absurd (omega arith)
-word_first (suc k) n h = ap (λ (x : ℕ). letter_of (n / 5 ^ x) ∷ word x (n % 5 ^ x)) (before k)
-  where
-    before : (k : ℕ) → k ≡ suc k - 1
-    before k = omega arith
+length-word zero n = refl
+length-word (suc k) n = ap suc (length-word k (n % 5 ^ k))
+
+pub word_none : (k n : ℕ) → k ≡ 0 → word k n ≡ []
+unfolding word
+word_none k n e = ap (λ (x : ℕ). word x n) e
+
+pub none_left : (k n : ℕ) → word k n ≡ [] → k ≡ 0
+none_left k n e = sym (length-word k n) ∙ ap length e
+
+pub one_less : (k n k' n' : ℕ) (l : Letter) → word k n ≡ l ∷ word k' n' → k ≡ k' + 1
+one_less k n k' n' l e = sym (length-word k n) ∙ ap length e ∙ ap suc (length-word k' n') ∙ sym (add-one k')
 
 pub unit-positive : (k unit : ℕ) → unit ≡ 5 ^ k → 0 < unit
 unit-positive k unit e = subst (λ (x : ℕ). 0 < x) (sym e) (one-le-pow k 5 (zero-lt-suc 4))
 
--- A letter taken off a word, as the code takes it.
-pub record Taken (left rest unit : ℕ) (l : Letter) : Type 0 where
-  pub some_left : 0 < left
-  pub unit-is : unit ≡ 5 ^ (left - 1)
-  pub letter-is : l ≡ letter_of (rest / unit)
+-- the first letter taken off a word
+pub taken : (k n k' unit : ℕ) (l : Letter) → k ≡ k' + 1 → unit ≡ 5 ^ k' → l ≡ letter_of (n / unit) → word k n ≡ l ∷ word k' (n % unit)
+taken k n k' unit l e u f =
+    ap (λ (x : ℕ). word x n) (e ∙ add-one k')
+    ∙ first
+    ∙ ap (λ (x : ℕ). letter_of (n / x) ∷ word k' (n % x)) (sym u)
+    ∙ ap (λ (x : Letter). x ∷ word k' (n % unit)) (sym f)
+  where
+    first : word (suc k') n ≡ letter_of (n / 5 ^ k') ∷ word k' (n % 5 ^ k')
+    first = unfold word in refl
 
-pub taken : (left rest unit : ℕ) (l : Letter) → Taken left rest unit l → word left rest ≡ l ∷ word (left - 1) (rest % unit)
-taken left rest unit l t =
-    word_first left rest t.some_left
-    ∙ ap (λ (x : ℕ). letter_of (rest / x) ∷ word (left - 1) (rest % x)) (sym t.unit-is)
-    ∙ ap (λ (x : Letter). x ∷ word (left - 1) (rest % unit)) (sym t.letter-is)
-
-module _ (whole : Bool) (p : Presence) (left rest unit : ℕ) (l : Letter) (t : Taken left rest unit l) (w : whole ≡ legal_from p (word left rest)) where
-  from-letter : whole ≡ both (allowed p l) (legal_from (after p l) (word (left - 1) (rest % unit)))
+-- the letters that are left decide whether the whole is legal
+module _ (whole : Bool) (p : Presence) (v w : Word) (l : Letter) (first : v ≡ l ∷ w) (decides : whole ≡ legal_from p v) where
+  from-letter : whole ≡ both (allowed p l) (legal_from (after p l) w)
   unfolding legal_from
-  from-letter = w ∙ ap (legal_from p) (taken left rest unit l t)
+  from-letter = decides ∙ ap (legal_from p) first
 
-  pub legal-turn : (a : Bool) (q : Presence) → a ≡ allowed p l → a ≡ true → q ≡ after p l → whole ≡ legal_from q (word (left - 1) (rest % unit))
+  pub legal-turn : (a : Bool) (q : Presence) → a ≡ allowed p l → a ≡ true → q ≡ after p l → whole ≡ legal_from q w
   unfolding both
   legal-turn a q i e f =
       from-letter
-      ∙ ap (λ (x : Bool). both x (legal_from (after p l) (word (left - 1) (rest % unit)))) (sym i ∙ e)
-      ∙ ap (λ (x : Presence). legal_from x (word (left - 1) (rest % unit))) (sym f)
+      ∙ ap (λ (x : Bool). both x (legal_from (after p l) w)) (sym i ∙ e)
+      ∙ ap (λ (x : Presence). legal_from x w) (sym f)
 
   pub legal-not : (a : Bool) → a ≡ allowed p l → a ≡ false → false ≡ whole
   unfolding both
-  legal-not a i e = sym (from-letter ∙ ap (λ (x : Bool). both x (legal_from (after p l) (word (left - 1) (rest % unit)))) (sym i ∙ e))
+  legal-not a i e = sym (from-letter ∙ ap (λ (x : Bool). both x (legal_from (after p l) w)) (sym i ∙ e))
 
-pub legal-end : (whole : Bool) (p : Presence) (left rest : ℕ) → left ≡ 0 → whole ≡ legal_from p (word left rest) → true ≡ whole
-unfolding legal_from word
-legal-end whole p left rest e w = sym (w ∙ ap (λ (x : ℕ). legal_from p (word x rest)) e)
+pub legal-end : (whole : Bool) (p : Presence) (v : Word) → v ≡ [] → whole ≡ legal_from p v → true ≡ whole
+unfolding legal_from
+legal-end whole p v e w = sym (w ∙ ap (legal_from p) e)
 
-length-codes : (k n : ℕ) → length (codes_of (word k n)) ≡ k
-unfolding word
-length-codes zero n = refl
-length-codes (suc k) n = ap suc (length-codes k (n % 5 ^ k))
+length-codes : (w : Word) → length (codes_of w) ≡ length w
+length-codes [] = refl
+length-codes (l ∷ w) = ap suc (length-codes w)
 
 -- the letters still to come, put where the text ends, give the whole text
-pub codes-turn : (whole out : List ℕ) (end left rest unit c : ℕ) (l : Letter) → Taken left rest unit l → c ≡ code_of l → sets out end (codes_of (word left rest)) ≡ whole
-    → sets (set out end c) (end + 1) (codes_of (word (left - 1) (rest % unit))) ≡ whole
-codes-turn whole out end left rest unit c l t e w =
-    ap₂ (λ (x k : ℕ). sets (set out end x) k (codes_of (word (left - 1) (rest % unit)))) e (add-one end)
-    ∙ ap (λ (v : Word). sets out end (codes_of v)) (sym (taken left rest unit l t))
-    ∙ w
+pub codes-turn : (whole out : List ℕ) (end c : ℕ) (v w : Word) (l : Letter) → v ≡ l ∷ w → c ≡ code_of l → sets out end (codes_of v) ≡ whole
+    → sets (set out end c) (end + 1) (codes_of w) ≡ whole
+codes-turn whole out end c v w l t e h =
+    ap₂ (λ (x k : ℕ). sets (set out end x) k (codes_of w)) e (add-one end)
+    ∙ ap (λ (x : Word). sets out end (codes_of x)) (sym t)
+    ∙ h
 
-pub line-put : (out₀ out : List ℕ) (at end k n left rest : ℕ) → left ≡ 0 → end + left ≡ at + k → sets out end (codes_of (word left rest)) ≡ sets out₀ at (codes_of (word k n))
-    → Put out₀ (set out end 10) at (end + 1) (line_of (word k n))
-unfolding word
-line-put out₀ out at end k n left rest z e w =
+pub line-put : (out₀ out : List ℕ) (at end : ℕ) (whole v : Word) → v ≡ [] → end ≡ at + length whole → sets out end (codes_of v) ≡ sets out₀ at (codes_of whole)
+    → Put out₀ (set out end 10) at (end + 1) (line_of whole)
+line-put out₀ out at end whole v z e h =
     record {
-      end = omega (arith, length-append (codes_of (word k n)) (10 ∷ []), length-codes k n);
+      end = omega (arith, e, length-append (codes_of whole) (10 ∷ []), length-codes whole);
       stored =
-          ap (λ (x : List ℕ). set x end 10) (ap (λ (x : ℕ). sets out end (codes_of (word x rest))) (sym z) ∙ w)
-          ∙ ap (λ (x : ℕ). set (sets out₀ at (codes_of (word k n))) x 10) (omega (arith, length-codes k n))
-          ∙ sym (sets-append out₀ at (codes_of (word k n)) (10 ∷ []));
+          ap (λ (x : List ℕ). set x end 10) (ap (λ (x : Word). sets out end (codes_of x)) (sym z) ∙ h)
+          ∙ ap (λ (x : ℕ). set (sets out₀ at (codes_of whole)) x 10) (e ∙ ap (λ (x : ℕ). at + x) (sym (length-codes whole)))
+          ∙ sym (sets-append out₀ at (codes_of whole) (10 ∷ []));
     }
 
 -- ---- lines

@@ -1,11 +1,12 @@
 // The book of a history (01, "The book of a list"), for the two keys of the rig.
 ghost use Rattle.std.specs.Prelude.{◌≡◌};
-ghost use Rattle.histories.specs.Book.{first_key, second_key, absent, fresh_book, following, finished, one_if, count_of};
+ghost use Rattle.histories.specs.Book.{first_key, second_key, absent, fresh_book, following, finished, count_of};
 
 use crate::Letter;
 use segment::Key;
 
-// What a key has: its version, 0 where it is absent, and the byte that its value has eight times.
+// What a key has: its version, 0 where it is absent, and the byte that its value has eight times. No entry has version 0, so one
+// comparison of versions tells an absent key from a present one, without an `Option`.
 #[derive(Clone, Copy)]
 pub struct Held {
     pub version: u64,
@@ -54,62 +55,46 @@ pub fn fresh() -> Book
 fn following(next: u64) -> u64
     ensures { result ≡ following next }
 {
-    if 0xffff_ffff <= next {
-        return 0xffff_ffff;
-    }
-    next + 1
+    next.min(0xffff_fffe) + 1
 }
 
 // The book once the letter at a place of a history has counted.
 pub fn finished(book: Book, l: Letter, place: u8) -> Book
     ensures { result ≡ finished book l place }
 {
-    let next = book.next;
-    let first = book.first;
-    let second = book.second;
+    let next = following(book.next);
     let written = Held {
-        version: next,
+        version: book.next,
         byte: place,
     };
     match l {
         Letter::WriteA => Book {
-            next: following(next),
+            next,
             first: written,
-            second,
+            ..book
         },
         Letter::WriteB => Book {
-            next: following(next),
-            first,
+            next,
             second: written,
+            ..book
         },
         Letter::DeleteA => Book {
-            next: following(next),
+            next,
             first: absent(),
-            second,
+            ..book
         },
         Letter::DeleteB => Book {
-            next: following(next),
-            first,
+            next,
             second: absent(),
+            ..book
         },
         Letter::CleanAll => book,
     }
-}
-
-fn one_if(version: u64) -> usize
-    ensures { result ≡ one_if version }
-{
-    if version == 0 {
-        return 0;
-    }
-    1
 }
 
 // How many keys the book has.
 pub fn count(book: Book) -> usize
     ensures { result ≡ count_of book }
 {
-    let first = book.first;
-    let second = book.second;
-    one_if(first.version) + one_if(second.version)
+    usize::from(book.first.version != 0) + usize::from(book.second.version != 0)
 }

@@ -1,27 +1,46 @@
-// The short histories of the rig (02, R-14): which words of letters are legal, and the lines that list them. A word is given by
-// its length and its number among the words of that length in the order of the letters: the digits of the number to base 5
-// are the letters' numbers, the first letter's the highest.
+// The short histories of the rig (02, R-14): which words of letters are legal, and the lines that list them.
 #![tactic(auto)]
 
 ghost use Rattle.std.specs.Prelude.{◌+◌, ◌*◌, ◌^◌, ◌≤◌, ◌≡◌, [], ◌∷◌, length};
 ghost use Rattle.text.specs.Put.{Put};
+ghost use Rattle.std.specs.Iterator.{YieldsFirst, at_most};
 ghost use Rattle.histories.specs.Letters.{letter_of, code_of, allowed, after, legal};
 ghost use Rattle.histories.specs.List.{legal_ones, histories_of, histories, line_of, lines_of};
 ghost use Rattle.histories.specs.Numbered.{word};
 
 pub mod book;
 
-// The longest word.
-pub const LONGEST: u32 = 6;
-
-// A and B write the first and the second key, a and b delete them, C cleans all slots of the log.
-#[derive(Clone, Copy)]
+// A and B write the first and the second key, a and b delete them, C cleans all slots of the log. A letter's number is its code.
+#[derive(Clone, Copy, PartialEq, Eq)]
 pub enum Letter {
-    WriteA,
-    WriteB,
-    DeleteA,
-    DeleteB,
-    CleanAll,
+    WriteA = b'A' as isize,
+    WriteB = b'B' as isize,
+    DeleteA = b'a' as isize,
+    DeleteB = b'b' as isize,
+    CleanAll = b'C' as isize,
+}
+
+impl Letter {
+    fn code(self) -> u8
+        ensures { result ≡ code_of self }
+    {
+        self as u8
+    }
+}
+
+// The letter of a digit to base 5; a number above the digits gives the last.
+impl From<u32> for Letter {
+    ghost from_gives = { λ number l. l ≡ letter_of number };
+
+    fn from(number: u32) -> Letter {
+        match number {
+            0 => Letter::WriteA,
+            1 => Letter::WriteB,
+            2 => Letter::DeleteA,
+            3 => Letter::DeleteB,
+            _ => Letter::CleanAll,
+        }
+    }
 }
 
 // Which of the two keys are present.
@@ -31,66 +50,41 @@ pub struct Presence {
     pub second: bool,
 }
 
-pub fn letter_of(number: u32) -> Letter
-    ensures { result ≡ letter_of number }
-{
-    match number {
-        0 => Letter::WriteA,
-        1 => Letter::WriteB,
-        2 => Letter::DeleteA,
-        3 => Letter::DeleteB,
-        _ => Letter::CleanAll,
+impl Presence {
+    // A delete is allowed where its key is present, every other letter always.
+    fn allows(self, l: Letter) -> bool
+        ensures { result ≡ allowed self l }
+    {
+        match l {
+            Letter::WriteA | Letter::WriteB | Letter::CleanAll => true,
+            Letter::DeleteA => self.first,
+            Letter::DeleteB => self.second,
+        }
     }
-}
 
-// The letter as text.
-fn code(l: Letter) -> u8
-    ensures { result ≡ code_of l }
-{
-    match l {
-        Letter::WriteA => b'A',
-        Letter::WriteB => b'B',
-        Letter::DeleteA => b'a',
-        Letter::DeleteB => b'b',
-        Letter::CleanAll => b'C',
-    }
-}
-
-// A delete is allowed where its key is present, every other letter always.
-fn allowed(p: Presence, l: Letter) -> bool
-    ensures { result ≡ allowed p l }
-{
-    match l {
-        Letter::WriteA => true,
-        Letter::WriteB => true,
-        Letter::DeleteA => p.first,
-        Letter::DeleteB => p.second,
-        Letter::CleanAll => true,
-    }
-}
-
-// Which keys are present after a letter.
-fn after(p: Presence, l: Letter) -> Presence
-    ensures { result ≡ after p l }
-{
-    match l {
-        Letter::WriteA => Presence {
-            first: true,
-            second: p.second,
-        },
-        Letter::WriteB => Presence {
-            first: p.first,
-            second: true,
-        },
-        Letter::DeleteA => Presence {
-            first: false,
-            second: p.second,
-        },
-        Letter::DeleteB => Presence {
-            first: p.first,
-            second: false,
-        },
-        Letter::CleanAll => p,
+    // Which keys are present after a letter.
+    fn after(self, l: Letter) -> Presence
+        ensures { result ≡ after self l }
+    {
+        match l {
+            Letter::WriteA => Presence {
+                first: true,
+                ..self
+            },
+            Letter::WriteB => Presence {
+                second: true,
+                ..self
+            },
+            Letter::DeleteA => Presence {
+                first: false,
+                ..self
+            },
+            Letter::DeleteB => Presence {
+                second: false,
+                ..self
+            },
+            Letter::CleanAll => self,
+        }
     }
 }
 
@@ -99,69 +93,79 @@ pub fn words(letters: u32) -> u32
     requires { letters ≤ 6 }
     ensures { result ≡ 5 ^ letters }
 {
-    match letters {
-        0 => 1,
-        1 => 5,
-        2 => 25,
-        3 => 125,
-        4 => 625,
-        5 => 3125,
-        _ => 15625,
+    5u32.pow(letters)
+}
+
+// A word, given by its length and its number among the words of that length in the order of the letters: the digits of the
+// number to base 5 are the letters' numbers, the first letter's the highest. It gives its letters one after the other.
+#[derive(Clone, Copy)]
+pub struct WordNumber {
+    pub letters: u32,
+    pub number: u32,
+    pub ghost short: { letters ≤ 6 },
+}
+
+impl Iterator for WordNumber {
+    type Item = Letter;
+
+    ghost next_gives = { YieldsFirst (λ w. word w.letters w.number) };
+
+    ghost remaining = { λ w. at_most w.letters };
+
+    fn next(&mut self) -> Option<Letter> {
+        let left = self.letters.checked_sub(1)?;
+        let unit = words(left);
+        let letter = Letter::from(self.number / unit);
+        *self = WordNumber {
+            letters: left,
+            number: self.number % unit,
+        };
+        Some(letter)
     }
 }
 
-// Whether every delete of a word finds its key present.
-pub fn is_legal(letters: u32, number: u32) -> bool
-    requires { letters ≤ 6 }
-    ensures { result ≡ legal (word letters number) }
-{
-    let mut left = letters;
-    let mut rest = number;
-    let mut present = Presence {
-        first: false,
-        second: false,
-    };
-    while 0 < left {
-        left -= 1;
-        let unit = words(left);
-        let l = letter_of(rest / unit);
-        rest %= unit;
-        if !allowed(present, l) {
-            return false;
+impl WordNumber {
+    // Whether every delete of the word finds its key present.
+    pub fn is_legal(self) -> bool
+        ensures { result ≡ legal (word self.letters self.number) }
+    {
+        let mut present = Presence {
+            first: false,
+            second: false,
+        };
+        for letter in self {
+            if !present.allows(letter) {
+                return false;
+            }
+            present = present.after(letter);
         }
-        present = after(present, l);
+        true
     }
-    true
-}
 
-// A word, and a newline.
-pub fn put_word(out: &mut [u8], at: usize, letters: u32, number: u32) -> usize
-    requires { (letters ≤ 6) × (at + 7 ≤ length out.old) }
-    ensures { Put out.old out.new at result (line_of (word letters number)) × (result ≤ at + 7) }
-{
-    let mut left = letters;
-    let mut rest = number;
-    let mut end = at;
-    while 0 < left {
-        left -= 1;
-        let unit = words(left);
-        out[end] = code(letter_of(rest / unit));
-        rest %= unit;
-        end += 1;
+    // The word, and a newline.
+    pub fn put(self, out: &mut [u8], at: usize) -> usize
+        requires { at + 7 ≤ length out.old }
+        ensures { Put out.old out.new at result (line_of (word self.letters self.number)) × (result ≤ at + 7) }
+    {
+        let mut end = at;
+        for letter in self {
+            out[end] = letter.code();
+            end += 1;
+        }
+        out[end] = b'\n';
+        end + 1
     }
-    out[end] = b'\n';
-    end + 1
 }
 
 // The line of a word, if it is legal.
-fn put_legal(out: &mut [u8], at: usize, letters: u32, number: u32) -> usize
-    requires { (letters ≤ 6) × (at + 7 ≤ length out.old) }
-    ensures { Put out.old out.new at result (lines_of (legal_ones (word letters number ∷ []))) × (result ≤ at + 7) }
+fn put_legal(out: &mut [u8], at: usize, w: WordNumber) -> usize
+    requires { at + 7 ≤ length out.old }
+    ensures { Put out.old out.new at result (lines_of (legal_ones (word w.letters w.number ∷ []))) × (result ≤ at + 7) }
 {
-    if !is_legal(letters, number) {
+    if !w.is_legal() {
         return at;
     }
-    put_word(out, at, letters, number)
+    w.put(out, at)
 }
 
 // The histories of one length, a line for each.
@@ -169,12 +173,9 @@ fn put_length(out: &mut [u8], at: usize, letters: u32) -> usize
     requires { (letters ≤ 6) × (at + 7 * 5 ^ letters ≤ length out.old) }
     ensures { Put out.old out.new at result (lines_of (histories_of letters)) × (result ≤ at + 7 * 5 ^ letters) }
 {
-    let all = words(letters);
     let mut end = at;
-    let mut number = 0;
-    while number < all {
-        end = put_legal(out, end, letters, number);
-        number += 1;
+    for number in 0..words(letters) {
+        end = put_legal(out, end, WordNumber { letters, number });
     }
     end
 }
@@ -188,10 +189,8 @@ pub fn put_histories(out: &mut [u8], at: usize, longest: u32) -> usize
     ensures { Put out.old out.new at result (lines_of (histories longest)) × (result ≤ at + 136717) }
 {
     let mut end = at;
-    let mut letters = 0;
-    while letters <= longest {
+    for letters in 0..=longest {
         end = put_length(out, end, letters);
-        letters += 1;
     }
     end
 }

@@ -1,6 +1,7 @@
 -- Corollaries of demand 3. A deleted key stays gone, whatever is cleaned and wherever the power fails, until a write of it is
 -- finished. No two finished operations are told the same version, but for the 0 of cleanings, and every version told, by a read
 -- too, is below the next version that a later recovery gives. A step is accepted only where the book has an operation pending.
+use Rattle.std.specs.Prelude.{Ok, Err}
 use Prim.Native.Nat.{ℕ, zero, suc, ◌+◌, ◌-◌, ◌≤◌, ◌<◌}
 use native.Mathlib.Omega.{arith}
 use mathlib.Core.Path.{◌≡◌, refl, ap, ◌∙◌, subst}
@@ -16,10 +17,7 @@ use Rattle.segment.proofs.Choice.{both_left, both_right, both_true, pick_true, p
 use Rattle.segment.specs.Layout.{Layout, number_of_layout}
 use Rattle.segment.specs.declared.Key.{Key}
 use Rattle.record.specs.Answers.{read_said, refusal}
-use Rattle.record.specs.declared.FormatAnswer.{FormatAnswer}
-use Rattle.record.specs.declared.Reading.{Reading}
-use Rattle.record.specs.declared.ReadAnswer.{ReadAnswer}
-use Rattle.record.specs.declared.Recovery.{Recovery}
+use Rattle.record.specs.Answered.{FormatAnswer, Reading, ReadAnswer, Recovery}
 use Rattle.record.specs.declared.Refusal.{Refusal}
 use Rattle.record.specs.declared.Tables.{Tables}
 use Rattle.record.specs.Reach.{holds_table}
@@ -144,7 +142,7 @@ module _ (before : List Event) (l : Lengths) (a : Answer) (k : Key) (deleting : 
     gone-since =
         gone-after (feed (book_of before) (called steps l a)) k since (deleted-gone (book_of before) k l a deleting done) none_written
 
-module _ (L : Layout) (n s : ℕ) (area₀ area : List ℕ) (ab : Bytes area₀) (format : FormatPromise (number_of_layout L) n s area₀ area FormatAnswer.Formatted) where
+module _ (L : Layout) (n s : ℕ) (area₀ area : List ℕ) (ab : Bytes area₀) (format : FormatPromise (number_of_layout L) n s area₀ area (Ok tt)) where
   -- a list of events from the fresh store to a world, and what demand 3 says of it
   abbrev pub Leads : List Event → World → Type 0
   Leads es w = Run n s (fresh_world area) es w
@@ -158,7 +156,7 @@ module _ (L : Layout) (n s : ℕ) (area₀ area : List ℕ) (ab : Bytes area₀)
       (book_of before).pending ≡ some (record { operation = delete k; left = 1 }) → accepted a ≡ true →
       no_write (feed (book_of before) (called steps l a)) k after ≡ true → (order cells cells' : List ℕ) (r : Recovery) → order_bad n order ≡ false →
       LargeEnough w.cells (length cells) → RecoverPromise (image_layout n s w.area) n s order w.area cells cells' r → TypedKey k → (t : Tables) →
-      holds_table t k.table ≡ true → ((x : Reading) → ReadPromise r.rec.edition r.rec w.area cells' t k x → x.answer ≡ ReadAnswer.Refused Refusal.Absent)
+      holds_table t k.table ≡ true → ((x : Reading) → ReadPromise r.rec.edition r.rec w.area cells' t k x → x.answer ≡ Err Refusal.Absent)
       × ((p : Part) → ValuePromise r.rec.edition r.rec w.area cells' t k p → part_of w.area p ≡ [])
   unfolding book_answer book_value book_after
   deleted-stays-gone before after l a k w run deleting done none_written order cells cells' r good large promise typed t held = (
@@ -263,7 +261,7 @@ unfolding highest_told
 told_in [] e after = omega arith
 told_in (x ∷ xs) e after = omega (arith, told_in xs e after)
 
-module _ (L : Layout) (n s : ℕ) (area₀ area : List ℕ) (ab : Bytes area₀) (format : FormatPromise (number_of_layout L) n s area₀ area FormatAnswer.Formatted) where
+module _ (L : Layout) (n s : ℕ) (area₀ area : List ℕ) (ab : Bytes area₀) (format : FormatPromise (number_of_layout L) n s area₀ area (Ok tt)) where
   -- Whatever version a call told, a later recovery gives a higher next version.
   pub told-below-next :
       (before after : List Event) (c : Call) (l : Lengths) (a : Answer) (w : World) →

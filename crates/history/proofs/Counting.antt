@@ -1,5 +1,6 @@
 -- 02, R-5, over whole lists of events: from every accepted recovery or finished operation to the next, the numbers of the record that
 -- is held are what a scan of the log counts. While an operation is pending the log is still the one that it was started on.
+use Rattle.std.specs.Prelude.{Ok}
 use Prim.Native.Nat.{ℕ}
 use mathlib.Core.Path.{◌≡◌, sym, ap, ◌∙◌, subst}
 use mathlib.Core.List.{List}
@@ -7,7 +8,7 @@ use mathlib.Core.Option.{some}
 use Rattle.word.specs.Number.{Bytes}
 use Rattle.segment.specs.Layout.{Layout, number_of_layout}
 use Rattle.record.specs.Switch.{as_recovered}
-use Rattle.record.specs.declared.FormatAnswer.{FormatAnswer}
+use Rattle.record.specs.Answered.{FormatAnswer}
 use Rattle.record.specs.declared.Record.{Record}
 use Rattle.model.specs.Counts.{counts_of}
 use Rattle.model.specs.Operations.{log_now}
@@ -26,7 +27,7 @@ genuine-counts L area r cells g =
 
 -- After any list of events since the format, a record that is held counts the present bytes of the area as it is.
 pub counts-kept :
-    (L : Layout) (n s : ℕ) (area₀ area : List ℕ) → Bytes area₀ → FormatPromise (number_of_layout L) n s area₀ area FormatAnswer.Formatted →
+    (L : Layout) (n s : ℕ) (area₀ area : List ℕ) → Bytes area₀ → FormatPromise (number_of_layout L) n s area₀ area (Ok tt) →
     (es : List Event) (w : World) → Run n s (fresh_world area) es w → (h : Held) → w.held ≡ some h → h.rec.counts ≡ counts_of (log_now w.area h.rec)
 unfolding HeldGood
 counts-kept L n s area₀ area ab p es w r h e =

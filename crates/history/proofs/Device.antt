@@ -1,4 +1,5 @@
 -- What a device holds that gets each byte as it is told: the area of one side of a step.
+use Rattle.std.specs.Prelude.{Ok}
 use Prim.Native.Nat.{ℕ, suc, ◌-◌}
 use native.Mathlib.Omega.{arith}
 use mathlib.Core.Path.{◌≡◌, refl, sym, ap, ◌∙◌, subst}
@@ -7,10 +8,8 @@ use mathlib.Core.List.{List, [], ◌∷◌, ◌++◌}
 use mathlib.Core.Option.{Option, none, some}
 use lib.ListN.{length, get_or, take, set}
 use Rattle.segment.specs.Layout.{Layout}
-use Rattle.record.specs.declared.Foretold.{Foretold}
+use Rattle.record.specs.Answered.{Foretold, Stepped, TellAnswer}
 use Rattle.record.specs.declared.Refusal.{Refusal}
-use Rattle.record.specs.declared.Stepped.{Stepped}
-use Rattle.record.specs.declared.TellAnswer.{TellAnswer}
 use Rattle.model.specs.Causes.{first_cause}
 use Rattle.model.specs.Operations.{log_now, plan_for, stored}
 use Rattle.model.specs.Refused.{Lengths, is_pending, step_causes, tell_causes}
@@ -81,7 +80,7 @@ module _ (E : Editions) (L : Layout) (n s : ℕ) (area area' cells' work work' :
           (subst (λ (k : List ℕ). first_cause (step_causes L h.rec (lent_lengths area h.cells k)) ≡ none) e goes) good.genuine st).stores
 
       tells-turn : (l : List ℕ) → l ≡ h.work → TellPromise L h.rec area l x → first_cause (tell_causes L h.rec (tell_lengths area l)) ≡ none →
-          x.answer ≡ TellAnswer.At (get_or plan st.since (0, 0)).0 (get_or plan st.since (0, 0)).1
+          x.answer ≡ Ok (record { place = (get_or plan st.since (0, 0)).0; byte = (get_or plan st.since (0, 0)).1 })
       tells-turn l e promise goes =
           (subst (λ (k : List ℕ). TellPromise L h.rec area k x) e promise).exact
           (subst (λ (k : List ℕ). first_cause (tell_causes L h.rec (tell_lengths area k)) ≡ none) e goes) st

@@ -1,5 +1,6 @@
 -- 02, R-1, over runs. A write that carries an expectation and is accepted found the book's version of its key; once it is finished,
 -- it has replaced exactly that version. So no update is lost between a read and the write that rests on it.
+use Rattle.std.specs.Prelude.{Ok}
 use Prim.Native.Nat.{ℕ, zero, suc, ◌+◌, ◌-◌, ◌≤◌, ◌<◌}
 use native.Mathlib.Omega.{arith}
 use mathlib.Core.Path.{◌≡◌, refl, sym, ap, ◌∙◌, subst}
@@ -19,7 +20,7 @@ use Rattle.record.specs.Answers.{read_said, refusal}
 use Rattle.record.specs.Reach.{holds_table}
 use Rattle.record.specs.declared.Expected.{Expected}
 use Rattle.record.specs.declared.Expected.TheVariants.{Only}
-use Rattle.record.specs.declared.FormatAnswer.{FormatAnswer}
+use Rattle.record.specs.Answered.{FormatAnswer}
 use Rattle.record.specs.declared.Tables.{Tables}
 use Rattle.model.specs.Log.{same_keys}
 use Rattle.model.specs.Operations.{Operation, write, delete, clean}
@@ -210,7 +211,7 @@ agree-prefix E b (x ∷ xs) ys h = (h.0, agree-prefix (editions_after E x) (feed
 
 -- ---- runs
 
-module _ (L : Layout) (n s : ℕ) (area₀ area : List ℕ) (ab : Bytes area₀) (format : FormatPromise (number_of_layout L) n s area₀ area FormatAnswer.Formatted) where
+module _ (L : Layout) (n s : ℕ) (area₀ area : List ℕ) (ab : Bytes area₀) (format : FormatPromise (number_of_layout L) n s area₀ area (Ok tt)) where
   -- An accepted write that expects a version: it is the one that the book has of the key, 0 where it has none.
   pub expected-found :
       (before after : List Event) (t : Terms) (e : Version) (k : Key) (value : List ℕ) (l : Lengths) (a : Answer) (w : World) →

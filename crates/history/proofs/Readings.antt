@@ -1,4 +1,5 @@
 -- Reads answer what the book holds, also while an operation is pending; they keep the invariant, and tell a version below the next.
+use Rattle.std.specs.Prelude.{Ok, Err}
 use Prim.Native.Nat.{ℕ, ◌+◌, ◌-◌, ◌≤◌, ◌<◌, max}
 use native.Mathlib.Nat.{max-zero}
 use native.Mathlib.Omega.{arith}
@@ -21,11 +22,7 @@ use Rattle.record.specs.Range.{in_range, lengths_own, fits_lent}
 use Rattle.record.specs.RangeLaws.{lent, fits-lent, lent-next, lent-pending, lent-switched}
 use Rattle.record.specs.declared.Pending.{Pending}
 use Rattle.record.specs.declared.Pending.TheVariants.{Idle}
-use Rattle.record.specs.declared.Joined.{Joined}
-use Rattle.record.specs.declared.JoinAnswer.{JoinAnswer}
-use Rattle.record.specs.declared.Reading.{Reading}
-use Rattle.record.specs.declared.ReadAnswer.{ReadAnswer}
-use Rattle.record.specs.declared.Fewest.{Fewest}
+use Rattle.record.specs.Answered.{Joined, JoinAnswer, Reading, ReadAnswer, Fewest}
 use Rattle.record.specs.Switch.{new_layout, as_recovered}
 use Rattle.record.specs.declared.Record.{Record}
 use Rattle.record.specs.declared.Refusal.{Refusal}
@@ -138,7 +135,7 @@ module _ (E : Editions) (L : Layout) (laws : OperationLaws L) (n s : ℕ) where
   present-answer k (some p) (some y) e own of = (
     p.layout,
     of p refl,
-    ap (λ (z : Entry). ReadAnswer.Present (record { 0 = z.version }) (kind_of p.layout z)) (some_same e),
+    ap (λ (z : Entry). Ok (record { version = (record { 0 = z.version }); kind = (kind_of p.layout z) })) (some_same e),
   )
 
   present-value :
@@ -308,10 +305,10 @@ module _ (E : Editions) (L : Layout) (laws : OperationLaws L) (n s : ℕ) where
   -- While an operation is pending no slots are named to join.
   join-busy :
       (area : List ℕ) (h : Held) (m : Option ℕ) (b : Book) → Bytes area → Holding E L n s area m b h → (a : Joined) →
-      JoinPromise L h.rec area h.cells a → (x : Awaited) → b.pending ≡ some x → a.answer ≡ JoinAnswer.Refused Busy
+      JoinPromise L h.rec area h.cells a → (x : Awaited) → b.pending ≡ some x → a.answer ≡ Err Busy
   join-busy area h m b ab good a p x e = by-phase good.phase
     where
-      by-phase : Phase L area b h → a.answer ≡ JoinAnswer.Refused Busy
+      by-phase : Phase L area b h → a.answer ≡ Err Busy
       by-phase (idle _ q) = let z : ◌≡◌ {A = ℕ} 0 1 = cc in absurd (omega arith)
       by-phase (pending st _) =
           p.early Busy

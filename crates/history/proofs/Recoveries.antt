@@ -1,4 +1,5 @@
 -- A recovery and a cut keep the invariant.
+use Rattle.std.specs.Prelude.{Ok, Err}
 use Prim.Native.Nat.{ℕ, max}
 use native.Mathlib.Nat.{max-zero}
 use native.Mathlib.Omega.{arith}
@@ -12,8 +13,7 @@ use Rattle.segment.specs.Choice.{pick}
 use Rattle.segment.specs.Layout.{Layout}
 use Rattle.record.specs.Answers.{recover_said, blank}
 use Rattle.record.specs.Refusals.{number_of_refusal}
-use Rattle.record.specs.declared.Recovery.{Recovery}
-use Rattle.record.specs.declared.RecoverAnswer.{RecoverAnswer}
+use Rattle.record.specs.Answered.{Recovery, RecoverAnswer}
 use Rattle.record.specs.declared.Refusal.{Refusal}
 use Rattle.record.specs.declared.Record.{Record}
 use Rattle.model.specs.Causes.{first_cause}
@@ -53,7 +53,7 @@ module _ (E : Editions) (L : Layout) (n s : ℕ) where
 
   refused :
       (w : World) (b : Book) (t : ℕ) (order : List ℕ) (lent : Lengths) (cells' : List ℕ) (c : Refusal) → Inv E L n s w b t →
-      RecoverGoal w b t order lent cells' (record { answer = RecoverAnswer.Refused c; rec = blank })
+      RecoverGoal w b t order lent cells' (record { answer = Err c; rec = blank })
   unfolding feed version_told pick
   refused w b t order lent cells' c inv = rw (max-zero t, refusal-number c) (go (eqb (number_of_refusal c) 20))
     where
@@ -65,7 +65,7 @@ module _ (E : Editions) (L : Layout) (n s : ℕ) where
       (w : World) (b : Book) (t : ℕ) (order : List ℕ) (lent : Lengths) (cells cells' : List ℕ) → Inv E L n s w b t →
       first_cause (recover_causes L n s (length cells) order w.area) ≡ none → length cells' ≡ length cells →
       IndexRule s (log_now w.area (record_from L n s (length cells) w.area)) cells' →
-      RecoverGoal w b t order lent cells' (record { answer = RecoverAnswer.Recovered; rec = record_from L n s (length cells) w.area })
+      RecoverGoal w b t order lent cells' (record { answer = (Ok tt); rec = record_from L n s (length cells) w.area })
   unfolding feed feed_call version_told HeldGood pick
   accepts w b t order lent cells cells' inv e same rule =
       rw (max-zero t, same)

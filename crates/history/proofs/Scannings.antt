@@ -13,8 +13,7 @@ use Rattle.segment.specs.Layout.{Layout}
 use Rattle.segment.specs.declared.Key.{Key}
 use Rattle.record.specs.Answers.{Said, taken, said_by, read_said, convert_said}
 use Rattle.record.specs.Range.{fits_lent}
-use Rattle.record.specs.declared.ConvertAnswer.{ConvertAnswer}
-use Rattle.record.specs.declared.ReadAnswer.{ReadAnswer}
+use Rattle.record.specs.Answered.{ConvertAnswer, ReadAnswer}
 use Rattle.record.specs.declared.Record.{Record}
 use Rattle.record.specs.declared.Refusal.{Refusal}
 use Rattle.record.specs.declared.Refusal.TheVariants.{Geometry, NoDigest, DamagedLog, SharedVersion, MixedEditions, SlotTooLong, VersionTooWide}

@@ -1,4 +1,5 @@
 -- A start keeps the invariant: refused it changes nothing, accepted it is pending with its stores.
+use Rattle.std.specs.Prelude.{Ok, Err}
 use Prim.Native.Nat.{ℕ, ◌-◌, ◌≤◌, max}
 use native.Mathlib.Nat.{sub-zero, max-zero}
 use native.Mathlib.Omega.{arith}
@@ -23,8 +24,7 @@ use Rattle.record.specs.declared.Expected.TheVariants.{Any, Only}
 use Rattle.record.specs.declared.Pending.{Pending}
 use Rattle.record.specs.declared.Pending.TheVariants.{Idle, Append, NewHead, Clean, Forget}
 use Rattle.record.specs.declared.Refusal.{Refusal}
-use Rattle.record.specs.declared.Start.{Start}
-use Rattle.record.specs.declared.StartAnswer.{StartAnswer}
+use Rattle.record.specs.Answered.{Start, StartAnswer}
 use Rattle.record.specs.Switch.{unswitched}
 use Rattle.record.specs.declared.Record.{Record}
 use Rattle.model.specs.Log.{Placed, present}
@@ -86,7 +86,7 @@ module _ (E : Editions) (L : Layout) (laws : OperationLaws L) (n s : ℕ) where
   refused :
       (area : List ℕ) (h : Held) (m : Option ℕ) (q : Terms) (o : Operation) (lent : Lengths) (b : Book) (t : ℕ) (work' : List ℕ) (c : Refusal) →
       Inv E L n s (record { area = area; held = some h; cells = m }) b t →
-      StartGoal area h m q o lent b t (record { answer = StartAnswer.Refused c; rec = h.rec }) work'
+      StartGoal area h m q o lent b t (record { answer = Err c; rec = h.rec }) work'
   unfolding feed version_told EventAgrees
   refused area h m q o lent b t work' c inv = (
     rw (max-zero t, pick-false (eqb (number_of_refusal c) 0) work' h.work, pick-false (eqb (number_of_refusal c) 0) (feed_call b (starts q o) 0) b, refusal-number c)
@@ -114,7 +114,7 @@ module _ (E : Editions) (L : Layout) (laws : OperationLaws L) (n s : ℕ) where
       first_cause (start_causes L h.rec (log_now area h.rec) (lent_lengths area h.cells work) q o) ≡ none →
       StartGoal area h m q o lent b t
       (record {
-        answer = StartAnswer.Started (stores_for L h.rec (log_now area h.rec) o);
+        answer = Ok (stores_for L h.rec (log_now area h.rec) o);
         rec = started_record L h.rec (log_now area h.rec) o;
       })
       (sets work 0 (laid L h.rec (log_now area h.rec) o).bytes)

@@ -1,4 +1,5 @@
 -- A step keeps the invariant, and answers what the book says.
+use Rattle.std.specs.Prelude.{Ok, Err}
 use Prim.Native.Nat.{ℕ, zero, suc, ◌-◌, ◌<◌, max}
 use native.Mathlib.Nat.{max-zero}
 use native.Mathlib.Omega.{arith}
@@ -21,8 +22,8 @@ use Rattle.record.specs.Answers.{step_said, with_pending}
 use Rattle.record.specs.Refusals.{number_of_refusal}
 use Rattle.record.specs.declared.Pending.TheVariants.{Idle}
 use Rattle.record.specs.declared.Refusal.{Refusal}
-use Rattle.record.specs.declared.Stepped.{Stepped}
-use Rattle.record.specs.declared.StepAnswer.{StepAnswer}
+use Rattle.record.specs.Answered.{Stepped, StepAnswer}
+use Rattle.record.specs.declared.Progress.{Progress}
 use Rattle.record.specs.Switch.{new_layout, unswitched}
 use Rattle.record.specs.declared.Record.{Record}
 use Rattle.model.specs.Log.{Placed, views_of}
@@ -61,7 +62,7 @@ module _ (E : Editions) (L : Layout) (laws : OperationLaws L) (n s : ℕ) where
 
   refused :
       (area : List ℕ) (h : Held) (m : Option ℕ) (lent : Lengths) (b : Book) (t : ℕ) (c : Refusal) → Inv E L n s (record { area = area; held = some h; cells = m }) b t →
-      StepGoal h m lent b t area h.cells (record { answer = StepAnswer.Refused c; rec = h.rec })
+      StepGoal h m lent b t area h.cells (record { answer = Err c; rec = h.rec })
   unfolding feed version_told EventAgrees
   refused area h m lent b t c inv = (
     L,
@@ -162,7 +163,7 @@ module _ (E : Editions) (L : Layout) (laws : OperationLaws L) (n s : ℕ) where
           subst⁻¹ (λ (x : Option Awaited). StepAgrees b (step_said a) x) awaited (e ∙ sym one_less, λ p. v (omega (arith, one_less, p)))
 
       -- not the last: the same record with one store less, the same log, the same index
-      goes_on : (k : ℕ) → left ≡ suc k → StepGoal h m lent b t after h.cells (record { answer = StepAnswer.Left (suc k); rec = with_pending st.idle ((laid L st.idle (log_now st.before st.idle) st.operation).pending (suc k)) })
+      goes_on : (k : ℕ) → left ≡ suc k → StepGoal h m lent b t after h.cells (record { answer = Ok (Progress.Left (suc k)); rec = with_pending st.idle ((laid L st.idle (log_now st.before st.idle) st.operation).pending (suc k)) })
       unfolding one_off HeldGood version_told
       goes_on k e = (
         L,
@@ -171,7 +172,7 @@ module _ (E : Editions) (L : Layout) (laws : OperationLaws L) (n s : ℕ) where
             (subst (λ (c : Option ℕ). Inv E L n s (record { area = after; held = some held'; cells = c }) b' t) cells-idle
             (rebuilt E L n s st.idle.cells after (unswitched st.idle) (some held') b' t bytes' recovers' next-idle
             (λ j. ap (λ (x : List Placed). value_at x j) log' ∙ map-idle j) inv.agrees.own-among slots' inv.below holding')),
-        agrees-with (StepAnswer.Left (suc k)) (sym e) (λ z. absurd (omega (arith, e, z))),
+        agrees-with (Ok (Progress.Left (suc k))) (sym e) (λ z. absurd (omega (arith, e, z))),
       )
         where
           held' : Held
@@ -251,7 +252,7 @@ module _ (E : Editions) (L : Layout) (laws : OperationLaws L) (n s : ℕ) where
               }
 
       -- the last: the record, the map and the index of the finished operation
-      ends : (cells' : List ℕ) → length cells' ≡ length h.cells → left ≡ 0 → IndexRule (finished_record L st.before st.idle st.operation).size (log_now after (finished_record L st.before st.idle st.operation)) cells' → StepGoal h m lent b t after cells' (record { answer = StepAnswer.Done (record { 0 = told_version st.idle st.operation }); rec = finished_record L st.before st.idle st.operation })
+      ends : (cells' : List ℕ) → length cells' ≡ length h.cells → left ≡ 0 → IndexRule (finished_record L st.before st.idle st.operation).size (log_now after (finished_record L st.before st.idle st.operation)) cells' → StepGoal h m lent b t after cells' (record { answer = Ok (Progress.Done (record { 0 = told_version st.idle st.operation })); rec = finished_record L st.before st.idle st.operation })
       unfolding one_off HeldGood version_told
       ends cells' long e rule = (
         fin.edition,
@@ -262,7 +263,7 @@ module _ (E : Editions) (L : Layout) (laws : OperationLaws L) (n s : ℕ) where
             (finished-next L st.before st.idle b next-idle st.operation)
             (λ j. ap (λ (x : List ℕ). value_at (log_now x fin) j) all-stored ∙ laws.finish-map st.before st.idle st.operation acc j ∙ finished-map L st.before st.idle b next-idle st.operation (value_at (log_now st.before st.idle)) map-idle j)
             fin-among slots' told' holding')),
-        agrees-with (StepAnswer.Done (record { 0 = told_version st.idle st.operation })) (sym e) (λ z. told_same L st.before st.idle b next-idle st.operation),
+        agrees-with (Ok (Progress.Done (record { 0 = told_version st.idle st.operation }))) (sym e) (λ z. told_same L st.before st.idle b next-idle st.operation),
       )
         where
           fin : Record
@@ -387,8 +388,8 @@ module _ (E : Editions) (L : Layout) (laws : OperationLaws L) (n s : ℕ) where
       go (some c) e =
           let rf = p.refused c e in
           subst⁻¹ (λ (x : Stepped). StepGoal h m lent b t area' cells' x) rf.answers
-          (subst⁻¹ (λ (x : List ℕ). StepGoal h m lent b t x cells' (record { answer = StepAnswer.Refused c; rec = h.rec })) rf.area_same
-          (subst⁻¹ (λ (x : List ℕ). StepGoal h m lent b t area x (record { answer = StepAnswer.Refused c; rec = h.rec })) rf.index_same
+          (subst⁻¹ (λ (x : List ℕ). StepGoal h m lent b t x cells' (record { answer = Err c; rec = h.rec })) rf.area_same
+          (subst⁻¹ (λ (x : List ℕ). StepGoal h m lent b t area x (record { answer = Err c; rec = h.rec })) rf.index_same
           (refused area h m lent b t c inv)))
       go none e = by-phase inv.held.phase
         where

@@ -1,4 +1,5 @@
 -- The switch to the second edition (02, R-13) keeps the invariant; it is refused for nothing but an operation that is pending.
+use Rattle.std.specs.Prelude.{Ok, Err}
 use Prim.Native.Nat.{ℕ, ◌-◌, max}
 use native.Mathlib.Nat.{max-zero}
 use native.Mathlib.Omega.{arith}
@@ -16,8 +17,7 @@ use Rattle.record.specs.Switch.{switched_on, switch_said}
 use Rattle.record.specs.declared.Record.{Record}
 use Rattle.record.specs.declared.Refusal.{Refusal}
 use Rattle.record.specs.declared.Refusal.TheVariants.{BadRecord, Busy}
-use Rattle.record.specs.declared.SwitchAnswer.{SwitchAnswer}
-use Rattle.record.specs.declared.Switching.{Switching}
+use Rattle.record.specs.Answered.{SwitchAnswer, Switching}
 use Rattle.model.specs.Causes.{when, first_cause}
 use Rattle.model.specs.Fewest.{no_lengths}
 use Rattle.model.specs.Operations.{log_now, stores_for}
@@ -85,7 +85,7 @@ module _ (E : Editions) (L : Layout) (laws : OperationLaws L) (n s : ℕ) (area 
                   switch = λ q. refl;
                 };
           }),
-      subst⁻¹ (SwitchAgrees (saying (switch_said SwitchAnswer.Switched))) none-awaited refl,
+      subst⁻¹ (SwitchAgrees (saying (switch_said (Ok tt)))) none-awaited refl,
     )
       where
         idle-now : Phase L area b h → Phase L area b (record { rec = switched_on h.rec; cells = h.cells; work = h.work })
@@ -94,7 +94,7 @@ module _ (E : Editions) (L : Layout) (laws : OperationLaws L) (n s : ℕ) (area 
 
     busy : (x : Awaited) → b.pending ≡ some x → SwitchGoal (switching (some Busy) h.rec)
     unfolding switching editions_after feed feed_call version_told EventAgrees SwitchAgrees pick
-    busy x awaited = (rw (max-zero t) inv, subst⁻¹ (SwitchAgrees (saying (switch_said (SwitchAnswer.Refused Busy)))) awaited refl)
+    busy x awaited = (rw (max-zero t) inv, subst⁻¹ (SwitchAgrees (saying (switch_said (Err Busy)))) awaited refl)
 
     pub switch-keeps : (a : Switching) → SwitchPromise L h.rec a → SwitchGoal a
     unfolding is_pending first_cause

@@ -1,4 +1,5 @@
 -- What is told of the next store keeps the invariant, and agrees with the book on whether an operation is pending.
+use Rattle.std.specs.Prelude.{Ok, Err}
 use Prim.Native.Nat.{ℕ, ◌-◌, max}
 use native.Mathlib.Nat.{max-zero}
 use native.Mathlib.Omega.{arith}
@@ -11,12 +12,11 @@ use Rattle.segment.specs.Entry.{Entry}
 use Rattle.segment.specs.Layout.{Layout, entry_size}
 use Rattle.segment.specs.declared.Key.{Key}
 use Rattle.record.specs.Refusals.{number_of_refusal}
-use Rattle.record.specs.declared.Foretold.{Foretold}
+use Rattle.record.specs.Answered.{Foretold, TellAnswer}
 use Rattle.record.specs.Switch.{new_layout}
 use Rattle.record.specs.declared.Record.{Record}
 use Rattle.record.specs.declared.Refusal.{Refusal}
 use Rattle.record.specs.declared.Refusal.TheVariants.{BadRecord, WorkShort, NonePending}
-use Rattle.record.specs.declared.TellAnswer.{TellAnswer}
 use Rattle.model.specs.Log.{Placed}
 use Rattle.model.specs.Causes.{first_cause}
 use Rattle.model.specs.Operations.{Operation, write, delete, clean, log_now, written_entry, tombstone_entry, fits_head, no_room, laid_append, laid_head, laid_entry, laid_forget, laid, stores_for}
@@ -31,8 +31,8 @@ use Rattle.history.proofs.Invariant.{Inv, Phase, idle, pending}
 
 -- no version is told
 no-version : (x : TellAnswer) → (telling x).said.version ≡ 0
-no-version (TellAnswer.At place byte) = refl
-no-version (TellAnswer.Refused c) = refl
+no-version (Ok s) = refl
+no-version (Err c) = refl
 
 -- ---- the causes, by whether an operation is pending
 

@@ -1,4 +1,5 @@
 -- Demand 3, from the laws of the store.
+use Rattle.std.specs.Prelude.{Ok}
 use Prim.Native.Nat.{ℕ, max}
 use native.Mathlib.Nat.{max-zero}
 use native.Mathlib.Omega.{arith}
@@ -16,8 +17,7 @@ use Rattle.segment.proofs.Choice.{both_left, either-false-left, either-false-rig
 use Rattle.segment.specs.Layout.{Layout, edition1, edition2, layout_numbered, number_of_layout}
 use Rattle.segment.proofs.LayoutLaws.{numbered-layout}
 use Rattle.record.specs.Range.{between, fits_lent}
-use Rattle.record.specs.declared.FormatAnswer.{FormatAnswer}
-use Rattle.record.specs.declared.Recovery.{Recovery}
+use Rattle.record.specs.Answered.{FormatAnswer, Recovery}
 use Rattle.record.specs.declared.Refusal.{Refusal}
 use Rattle.record.specs.declared.Record.{Record}
 use Rattle.model.specs.Log.{Placed, present, latest, object_only}
@@ -47,14 +47,14 @@ use Rattle.history.proofs.Recoveries.{recover-keeps, cut_keeps}
 
 -- ---- an accepted format
 
-accepted-none : (c : Option Refusal) → FormatAnswer.Formatted ≡ format_answer c → c ≡ none
+accepted-none : (c : Option Refusal) → (Ok tt) ≡ format_answer c → c ≡ none
 unfolding format_answer
 accepted-none none q = refl
 accepted-none (some c) q = cc
 
 -- It was told the number of an edition, so what is shown below for each edition is shown for every accepted format.
 pub format-edition :
-    (e n s : ℕ) (area₀ area : List ℕ) → FormatPromise e n s area₀ area FormatAnswer.Formatted → (L : Layout) × (e ≡ number_of_layout L)
+    (e n s : ℕ) (area₀ area : List ℕ) → FormatPromise e n s area₀ area (Ok tt) → (L : Layout) × (e ≡ number_of_layout L)
 unfolding layout_numbered number_of_layout pick is_none
 format-edition e n s area₀ area p = go (eqb e 1) refl (eqb e 2) refl named
   where
@@ -180,7 +180,7 @@ module _ (n s : ℕ) where
   -- ---- the fresh store
 
   pub fresh :
-      (L : Layout) (area₀ area : List ℕ) → Bytes area₀ → FormatPromise (number_of_layout L) n s area₀ area FormatAnswer.Formatted →
+      (L : Layout) (area₀ area : List ℕ) → Bytes area₀ → FormatPromise (number_of_layout L) n s area₀ area (Ok tt) →
       Inv (formatted_in L) L n s (fresh_world area) fresh_book 0
   unfolding format_answer area_unless formatted_as base_cells HeldGood between both present latest object_only unplaced book_entry
   fresh L area₀ area ab p = subst⁻¹ (λ (x : List ℕ). Inv (formatted_in L) L n s (fresh_world x) fresh_book 0) left start'
@@ -219,7 +219,7 @@ module _ (n s : ℕ) where
           }
 
   pub run_holds :
-      (L : Layout) (area₀ area : List ℕ) → Bytes area₀ → FormatPromise (number_of_layout L) n s area₀ area FormatAnswer.Formatted → (es : List Event) (w : World) →
+      (L : Layout) (area₀ area : List ℕ) → Bytes area₀ → FormatPromise (number_of_layout L) n s area₀ area (Ok tt) → (es : List Event) (w : World) →
       Run n s (fresh_world area) es w → Demand3Of L n s w es
   run_holds L area₀ area ab p es w r =
       let (K, kept, agrees) = run-keeps (formatted_in L) L fresh_book 0 r (fresh L area₀ area ab p) in

@@ -1,5 +1,5 @@
 -- 01, "The book of a list, for demand 3": what a list of calls and cuts leaves, by the list alone.
-use Rattle.std.specs.Prelude.{ℕ, zero, suc, ◌+◌, ◌-◌, max, Bool, List, [], ◌∷◌, eqb}
+use Rattle.std.specs.Prelude.{ℕ, zero, suc, ◌+◌, ◌-◌, max, Bool, List, [], ◌∷◌, eqb, Ok, Err}
 use Rattle.std.proofs.Math.Option.{Option, none, some}
 use Rattle.segment.specs.Choice.{pick}
 use Rattle.segment.specs.declared.Key.{Key}
@@ -7,8 +7,7 @@ use Rattle.record.specs.Answers.{Said, taken, refusal, fewest_said, fewest_told}
 use Rattle.record.specs.Refusals.{number_of_refusal}
 use Rattle.record.specs.Pairs.{PairSaid}
 use Rattle.record.specs.declared.Tables.{Tables}
-use Rattle.record.specs.declared.FewestAnswer.{FewestAnswer}
-use Rattle.record.specs.declared.TellAnswer.{TellAnswer}
+use Rattle.record.specs.Answered.{FewestAnswer, TellAnswer}
 use Rattle.model.specs.Log.{same_keys}
 use Rattle.model.specs.Operations.{Operation, write, delete, clean}
 use Rattle.model.specs.Refused.{Lengths, Terms}
@@ -50,8 +49,8 @@ giving v = record { said = taken; value = v; place = 0 }
 
 -- the place and byte of a store, or the refusal
 abbrev pub telling : TellAnswer → Answer
-telling (TellAnswer.At place byte) = record { said = taken; value = byte ∷ []; place = place }
-telling (TellAnswer.Refused c) = saying (refusal (number_of_refusal c))
+telling (Ok s) = record { said = taken; value = s.byte ∷ []; place = s.place }
+telling (Err c) = saying (refusal (number_of_refusal c))
 
 -- a slot, where a value has its bytes
 abbrev pub naming : FewestAnswer → Answer

@@ -1,12 +1,10 @@
 -- 02, R-12: what becomes of demand 3 where the area of a store is converted: the second buffer is a store of the other edition, with the book
 -- of the list of calls and cuts on the first.
-use Rattle.std.specs.Prelude.{ℕ, ◌<◌, max, ◌≡◌, false, List, length}
+use Rattle.std.specs.Prelude.{ℕ, ◌<◌, max, ◌≡◌, false, List, length, Ok}
 use Rattle.std.proofs.Math.Option.{none}
 use Rattle.word.specs.Number.{Bytes}
 use Rattle.segment.specs.Layout.{Layout, number_of_layout, other_layout}
-use Rattle.record.specs.declared.ConvertAnswer.{ConvertAnswer}
-use Rattle.record.specs.declared.FormatAnswer.{FormatAnswer}
-use Rattle.record.specs.declared.Recovery.{Recovery}
+use Rattle.record.specs.Answered.{ConvertAnswer, FormatAnswer, Recovery}
 use Rattle.model.specs.Conversion.{ConvertPromise}
 use Rattle.model.specs.Promises.{FormatPromise, RecoverPromise}
 use Rattle.model.specs.Recovery.{order_bad, image_layout}
@@ -34,7 +32,7 @@ pub record StoreWith (E : Editions) (n s : ℕ) (w : World) (b : Book) (told : �
 -- not have: the format's other one, where no switch was accepted.
 abbrev pub ConversionKeepsBook : Layout → Type 0
 ConversionKeepsBook L =
-    (n s : ℕ) (area₀ area : List ℕ) → Bytes area₀ → FormatPromise (number_of_layout L) n s area₀ area FormatAnswer.Formatted → (es : List Event) (w : World) →
-    Run n s (fresh_world area) es w → (target target' : List ℕ) → ConvertPromise n s w.area target target' ConvertAnswer.Converted →
+    (n s : ℕ) (area₀ area : List ℕ) → Bytes area₀ → FormatPromise (number_of_layout L) n s area₀ area (Ok tt) → (es : List Event) (w : World) →
+    Run n s (fresh_world area) es w → (target target' : List ℕ) → ConvertPromise n s w.area target target' (Ok tt) →
     Among (editions_behind (formatted_in L) es) (image_layout n s w.area)
     × StoreWith (formatted_in (other_layout (image_layout n s w.area))) n s (record { area = target'; held = none; cells = w.cells }) (book_of es) (highest_told es)

@@ -1,5 +1,5 @@
 -- Demand 3, as one claim about a whole list of calls and cuts. Each phrase of the demand stands beside the part that renders it.
-use Rattle.std.specs.Prelude.{ℕ, ◌-◌, ◌≤◌, ◌<◌, ◌≡◌, Bool, true, false, List, [], ◌∷◌, eqb, length}
+use Rattle.std.specs.Prelude.{ℕ, ◌-◌, ◌≤◌, ◌<◌, ◌≡◌, Bool, true, false, List, [], ◌∷◌, eqb, length, Ok, Err}
 use Rattle.std.proofs.Math.Option.{Option, none, some}
 use Rattle.word.specs.Number.{Bytes}
 use Rattle.segment.specs.Choice.{pick, both, either}
@@ -12,11 +12,7 @@ use Rattle.record.specs.Reach.{holds_table}
 use Rattle.record.specs.Range.{cells_good}
 use Rattle.record.specs.declared.Expected.{Expected}
 use Rattle.record.specs.declared.Expected.TheVariants.{Any, Only}
-use Rattle.record.specs.declared.FormatAnswer.{FormatAnswer}
-use Rattle.record.specs.declared.Reading.{Reading}
-use Rattle.record.specs.declared.ReadAnswer.{ReadAnswer}
-use Rattle.record.specs.declared.Recovery.{Recovery}
-use Rattle.record.specs.declared.RecoverAnswer.{RecoverAnswer}
+use Rattle.record.specs.Answered.{FormatAnswer, Reading, ReadAnswer, Recovery, RecoverAnswer}
 use Rattle.record.specs.declared.Refusal.{Refusal}
 use Rattle.record.specs.declared.Tables.{Tables}
 use Rattle.model.specs.Operations.{Operation, write, delete, clean, TypedKey}
@@ -34,8 +30,8 @@ LargeEnough (some k) m = (cells_good m ≡ true) × (k ≤ m)
 
 -- what a read answers of a key by the book: version and kind, or 8. The kind is that of the value's length in the edition of some slot.
 unfoldable pub book_answer : Layout → Option Kept → ReadAnswer
-book_answer L none = ReadAnswer.Refused Refusal.Absent
-book_answer L (some x) = ReadAnswer.Present (record { 0 = x.version }) (kind_for L (some x.value))
+book_answer L none = Err Refusal.Absent
+book_answer L (some x) = Ok (record { version = (record { 0 = x.version }); kind = (kind_for L (some x.value)) })
 
 -- and its value, the empty part where read refuses
 unfoldable pub book_value : Option Kept → List ℕ
@@ -45,7 +41,7 @@ book_value (some x) = x.value
 -- "It gives exactly what 01's book of that list holds", E being the editions that slots may have
 pub record GivesBook (E : Editions) (area cells' : List ℕ) (r : Recovery) (b : Book) : Type 0 where
   -- "recovery ... is accepted"
-  pub is-accepted : r.answer ≡ RecoverAnswer.Recovered
+  pub is-accepted : r.answer ≡ (Ok tt)
   -- the record has the edition of the format (02, R-11) or, after a switch, that or the second (R-13); and it is not switched
   pub own-edition : Among E r.rec.edition
   pub not-switched : r.rec.switched ≡ false
@@ -139,7 +135,7 @@ pub record Demand3Of (L : Layout) (n s : ℕ) (w : World) (es : List Event) : Ty
 -- "For every list of calls on one store ... and cuts, from an accepted format on", which was told the number of the edition
 abbrev pub Demand3For : Layout → Type 0
 Demand3For L =
-    (n s : ℕ) (area₀ area : List ℕ) → Bytes area₀ → FormatPromise (number_of_layout L) n s area₀ area FormatAnswer.Formatted → (es : List Event) (w : World) →
+    (n s : ℕ) (area₀ area : List ℕ) → Bytes area₀ → FormatPromise (number_of_layout L) n s area₀ area (Ok tt) → (es : List Event) (w : World) →
     Run n s (fresh_world area) es w → Demand3Of L n s w es
 
 -- For a store of either edition (02, R-11).

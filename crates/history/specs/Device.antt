@@ -1,10 +1,10 @@
 -- A medium that is no memory: the area is a copy in RAM, and the device gets each byte by a write of its own. The store that the next
 -- step makes is told, and its byte is put on the device before the step that comes after it, so that the device holds the area, or is one
 -- store ahead of it or behind it. When the power fails the copy is lost and the device decides.
-use Rattle.std.specs.Prelude.{ℕ, ◌≡◌, true, List, [], ◌∷◌, ◌++◌, get_or, set}
+use Rattle.std.specs.Prelude.{ℕ, ◌≡◌, true, List, [], ◌∷◌, ◌++◌, get_or, set, Ok}
 use Rattle.word.specs.Number.{Bytes}
 use Rattle.segment.specs.Layout.{Layout, number_of_layout}
-use Rattle.record.specs.declared.FormatAnswer.{FormatAnswer}
+use Rattle.record.specs.Answered.{FormatAnswer}
 use Rattle.model.specs.Refused.{Lengths}
 use Rattle.model.specs.Promises.{FormatPromise}
 use Rattle.history.specs.Book.{tells, steps, Answer, accepted, Event, called}
@@ -27,7 +27,7 @@ pub record DeviceHolds (L : Layout) (n s : ℕ) (w x : World) (es : List Event) 
 -- From an accepted format on, behind every list of calls and cuts, for every store that is told and the step that follows.
 abbrev pub DeviceFor : Layout → Type 0
 DeviceFor L =
-    (n s : ℕ) (area₀ area : List ℕ) → Bytes area₀ → FormatPromise (number_of_layout L) n s area₀ area FormatAnswer.Formatted → (es : List Event) (w x : World) →
+    (n s : ℕ) (area₀ area : List ℕ) → Bytes area₀ → FormatPromise (number_of_layout L) n s area₀ area (Ok tt) → (es : List Event) (w x : World) →
     Run n s (fresh_world area) es w → (l k : Lengths) (told a : Answer) → Asked w tells l told → accepted told ≡ true →
     Moves n s w (called steps k a) x → DeviceHolds L n s w x es (called steps k a) told
 

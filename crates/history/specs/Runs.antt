@@ -6,20 +6,11 @@ use Rattle.std.proofs.Math.Option.{Option, none, some}
 use Rattle.segment.specs.Choice.{pick}
 use Rattle.segment.specs.declared.Key.{Key}
 use Rattle.record.specs.Answers.{recover_said, read_said, start_said, step_said, convert_said}
-use Rattle.record.specs.declared.ConvertAnswer.{ConvertAnswer}
-use Rattle.record.specs.declared.Foretold.{Foretold}
+use Rattle.record.specs.Answered.{ConvertAnswer, Foretold, Recovery, Joined, Reading, ReadAnswer, Start, Stepped, Switching, Fewest}
 use Rattle.record.specs.Pairs.{join_said}
 use Rattle.record.specs.declared.Record.{Record}
-use Rattle.record.specs.declared.Recovery.{Recovery}
-use Rattle.record.specs.declared.Joined.{Joined}
-use Rattle.record.specs.declared.Reading.{Reading}
-use Rattle.record.specs.declared.ReadAnswer.{ReadAnswer}
-use Rattle.record.specs.declared.Start.{Start}
-use Rattle.record.specs.declared.Stepped.{Stepped}
 use Rattle.record.specs.Switch.{switch_said}
-use Rattle.record.specs.declared.Switching.{Switching}
 use Rattle.record.specs.declared.Tables.{Tables}
-use Rattle.record.specs.declared.Fewest.{Fewest}
 use Rattle.model.specs.Fewest.{FewestPromise, no_lengths}
 use Rattle.model.specs.Operations.{Operation, Typed, TypedKey}
 use Rattle.model.specs.Recovery.{image_layout}

@@ -1,32 +1,6 @@
--- Whether all cells are one, and what a loop over them keeps.
-use Rattle.std.specs.Prelude.{ℕ, suc, ◌+◌, ◌<◌, ◌≤◌, ◌≡◌, refl, Bool, true, false, List, [], ◌∷◌, eqb, length, get_or, drop}
-use Rattle.std.proofs.Math.Path.{sym, ap}
-use Rattle.std.proofs.Common.{◌∙◌, add-one, arith, drop_of_length-le, drop-cons, eq-eqb, ne_eqb}
-use Rattle.segment.specs.Choice.{both}
-use Rattle.segment.proofs.Choice.{both-false-left}
+-- Whether all cells are one.
+use Rattle.std.specs.Prelude.{ℕ, ◌==◌, Bool, List}
+use Rattle.std.specs.List.{list_all}
 
-unfoldable pub all_are : ℕ → List ℕ → Bool
-all_are c [] = true
-all_are c (x ∷ xs) = both (eqb x c) (all_are c xs)
-
-module _ (c : ℕ) (xs : List ℕ) (i : ℕ) where
-  -- the cell at i and those behind it
-  from-here : i < length xs → all_are c (drop i xs) ≡ both (eqb (get_or xs i 0) c) (all_are c (drop (suc i) xs))
-  unfolding all_are
-  from-here h = ap (all_are c) (drop-cons xs i 0 h)
-
-  pub all-next : i < length xs → get_or xs i 0 ≡ c → all_are c xs ≡ all_are c (drop i xs) → all_are c xs ≡ all_are c (drop (i + 1) xs)
-  unfolding both
-  all-next h e whole =
-      whole
-      ∙ from-here h
-      ∙ ap (λ (t : Bool). both t (all_are c (drop (suc i) xs))) (eq-eqb (get_or xs i 0) c e)
-      ∙ ap (λ (k : ℕ). all_are c (drop k xs)) (sym (add-one i))
-
-  pub all-differs : i < length xs → (get_or xs i 0 ≡ c → ⊥) → all_are c xs ≡ all_are c (drop i xs) → false ≡ all_are c xs
-  all-differs h e whole =
-      sym (whole ∙ from-here h ∙ both-false-left (eqb (get_or xs i 0) c) (all_are c (drop (suc i) xs)) (ne_eqb (get_or xs i 0) c e))
-
-  pub all_end : length xs ≤ i → all_are c xs ≡ all_are c (drop i xs) → true ≡ all_are c xs
-  unfolding all_are
-  all_end h whole = sym (whole ∙ ap (all_are c) (drop_of_length-le xs {i = i} h))
+abbrev pub all_are : ℕ → List ℕ → Bool
+all_are c xs = list_all (λ (x : ℕ). x == c) xs

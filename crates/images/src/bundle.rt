@@ -1,7 +1,7 @@
 // The bytes of an item: N (1 byte), S (2), M (2), the length of the area (4), how many of its bytes are stored here (4), the
 // lengths of the name (1) and of the order list (1), and the number of keys to read (1); then the name, the order list, the
 // stored bytes, and six bytes for each key. Numbers are little-endian. The bytes of an area that are not stored are junk.
-ghost use Rattle.std.specs.Prelude.{◌≤◌, ◌<◌, ◌+◌, ◌≡◌, length, take, drop};
+ghost use Rattle.std.specs.Prelude.{◌≤◌, ◌<◌, ◌+◌, ◌≡◌, length};
 ghost use Rattle.images.specs.Bundle.{header_of, item_length, item_end, key_at};
 
 use segment::Key;
@@ -23,6 +23,15 @@ pub struct Header {
     pub name: u8,
     pub order: u8,
     pub keys: u8,
+}
+
+#[derive(Clone, Copy)]
+pub struct Item<'a> {
+    pub header: Header,
+    pub name: &'a [u8],
+    pub order: &'a [u8],
+    pub stored: &'a [u8],
+    pub keys: &'a [u8],
 }
 
 // The header of an item.
@@ -65,24 +74,26 @@ pub fn item_end(bundle: &[u8], at: usize) -> usize
     at + length
 }
 
-// The first bytes of a part of an item, as many as are there.
-pub fn first(part: &[u8], count: usize) -> &[u8]
-    ensures { result.now ≡ take count part.now }
-{
-    if count <= part.len() {
-        return &part[0..count];
+// The parts of an item; none where it lacks one.
+pub fn parts(bytes: &[u8]) -> Option<Item<'_>> {
+    if bytes.len() < HEADER {
+        return None;
     }
-    part
-}
-
-// The bytes after them.
-pub fn after(part: &[u8], count: usize) -> &[u8]
-    ensures { result.now ≡ drop count part.now }
-{
-    if count <= part.len() {
-        return &part[count..];
+    let header = header_of(bytes);
+    if bytes.len() < item_length(header) {
+        return None;
     }
-    &part[part.len()..]
+    let (_, rest) = bytes.split_at(HEADER);
+    let (name, rest) = rest.split_at(header.name as usize);
+    let (order, rest) = rest.split_at(header.order as usize);
+    let (stored, keys) = rest.split_at(header.stored as usize);
+    Some(Item {
+        header,
+        name,
+        order,
+        stored,
+        keys,
+    })
 }
 
 // The key at a place of the list of keys.

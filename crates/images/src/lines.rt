@@ -20,30 +20,20 @@ pub fn version(rt: &impl Print, name: &[u8], v: Version) -> io::Result<()> {
 }
 
 pub fn record(rt: &impl Print, rec: Record) -> io::Result<()> {
-    let number = rec.digest;
-    let next = rec.next;
-    version(rt, b": next ", next)?;
-    field(rt, b" digest ", number.0)?;
-    field(rt, b" head ", rec.head)?;
-    field(rt, b" end ", rec.end)?;
-    field(rt, b" map ", rec.map)?;
-    field(rt, b" keys ", rec.keys)?;
-    text(rt, b"\n")
+    println!(rt;
+        ": next {} digest {} head {} end {} map {} keys {}",
+        rec.next.0, rec.digest.0, rec.head, rec.end, rec.map, rec.keys
+    )
 }
 
 pub fn key(rt: &impl Print, k: Key) -> io::Result<()> {
-    field(rt, b"  ", k.table as u32)?;
-    field(rt, b" ", k.key)
-}
-
-fn byte(rt: &impl Print, b: u8) -> io::Result<()> {
-    print!(rt; " {b:02x}")
+    print!(rt; "  {} {}", k.table, k.key)
 }
 
 // The bytes of a value, to the end of the line.
 pub fn value(rt: &impl Print, bytes: &[u8]) -> io::Result<()> {
     for b in bytes {
-        byte(rt, *b)?;
+        print!(rt; " {b:02x}")?;
     }
     text(rt, b"\n")
 }

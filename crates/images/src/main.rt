@@ -10,7 +10,7 @@ mod lent;
 mod lines;
 mod outcome;
 
-// The items, one after the other.
+// The items, one after the other. A `while`: a turn goes on by an item's length, not by 1.
 fn items(rt: &impl Print, bundle: &[u8]) -> io::Result<()> {
     let mut at = 0;
     while at < bundle.len() {

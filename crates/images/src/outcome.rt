@@ -2,9 +2,9 @@
 ghost use Rattle.std.specs.Prelude.{◌≡◌};
 ghost use Rattle.images.specs.Cells.{all_are};
 
-use crate::bundle::Header;
+use crate::bundle::Item;
 use crate::{bundle, lines};
-use record::{ReadAnswer, Record, RecoverAnswer, Tables};
+use record::{Record, Tables};
 use segment::Key;
 use std::io;
 use store::{read, read_value, recover};
@@ -16,14 +16,7 @@ pub const OLD: u32 = 14;
 fn all_are(index: &[u32], cell: u32) -> bool
     ensures { result ≡ all_are cell index.now }
 {
-    let mut i = 0;
-    while i < index.len() {
-        if index[i] != cell {
-            return false;
-        }
-        i += 1;
-    }
-    true
+    index.iter().all(|c| *c == cell)
 }
 
 // The number of a refusal and what it left of the index.
@@ -49,11 +42,11 @@ fn read_line(rt: &impl Print, rec: Record, area: &[u8], index: &[u32], key: Key)
     let reading = read(rec, area, index, tables, key);
     let answer = reading.answer;
     match answer {
-        ReadAnswer::Present { version, kind } => {
-            lines::version(rt, b" version ", version)?;
-            lines::field(rt, b" kind ", kind as u32)?;
+        Ok(present) => {
+            lines::version(rt, b" version ", present.version)?;
+            lines::field(rt, b" kind ", present.kind as u32)?;
         }
-        ReadAnswer::Refused(cause) => {
+        Err(cause) => {
             lines::field(rt, b" refused ", record::number(cause))?;
         }
     }
@@ -63,31 +56,23 @@ fn read_line(rt: &impl Print, rec: Record, area: &[u8], index: &[u32], key: Key)
 
 // A line for each key of the list.
 fn reads(rt: &impl Print, rec: Record, area: &[u8], index: &[u32], keys: &[u8]) -> io::Result<()> {
-    let mut at = 0;
-    while bundle::KEY <= keys.len() - at {
-        read_line(rt, rec, area, index, bundle::key_at(keys, at))?;
-        at += bundle::KEY;
+    for key in keys.chunks_exact(bundle::KEY) {
+        read_line(rt, rec, area, index, bundle::key_at(key, 0))?;
     }
     Ok(())
 }
 
 // What comes of an image: the refusal, or the record and the reads.
-pub fn of_image(
-    rt: &impl Print,
-    h: Header,
-    order: &[u8],
-    area: &[u8],
-    index: &mut [u32],
-    keys: &[u8],
-) -> io::Result<()> {
-    let recovery = recover(h.slots as u32, h.size as u32, order, area, index);
+pub fn of_image(rt: &impl Print, item: Item<'_>, area: &[u8], index: &mut [u32]) -> io::Result<()> {
+    let h = item.header;
+    let recovery = recover(h.slots as u32, h.size as u32, item.order, area, index);
     let answer = recovery.answer;
     let rec = recovery.rec;
     match answer {
-        RecoverAnswer::Refused(cause) => refused(rt, record::number(cause), index),
-        RecoverAnswer::Recovered => {
+        Err(cause) => refused(rt, record::number(cause), index),
+        Ok(()) => {
             lines::record(rt, rec)?;
-            reads(rt, rec, area, index, keys)
+            reads(rt, rec, area, index, item.keys)
         }
     }
 }

@@ -1,5 +1,5 @@
 -- Laws of: Rebuilding the index of an undamaged log gives the index rule and the number of keys, or finds too many, whatever the order.
-use Rattle.std.specs.Prelude.{ℕ, zero, suc, ◌+◌, ◌*◌, ◌-◌, ◌^◌, ◌≤◌, ◌<◌, ◌≡◌, ◌⊎◌, Bool, eqb, leb, length}
+use Rattle.std.specs.Prelude.{ℕ, zero, suc, ◌+◌, ◌*◌, ◌-◌, ◌^◌, ◌≤◌, ◌<◌, ◌≡◌, ◌⊎◌, Bool, eqb, leb, length, Some, None}
 use Rattle.std.proofs.Math.Path.{refl, ap}
 use Rattle.std.proofs.Common.{sym, ◌∙◌, subst, inl, inr, arith}
 use Rattle.std.proofs.Math.Bool.{true, false}
@@ -30,9 +30,8 @@ use Rattle.index.proofs.SearchLaws.{version-whole}
 use Rattle.index.specs.Insert.{Tally, counted, over, insert_all}
 use Rattle.index.specs.InsertLaws.{Tells}
 use Rattle.index.proofs.InsertLaws.{tells-log}
-use Rattle.index.specs.Build.{entries_at, in_log, slot_entries, listed, finished, built}
+use Rattle.index.specs.Build.{entries_at, in_log, slot_entries, listed, finished, built, Built}
 use Rattle.index.proofs.Entries.{entries-scan}
-use Rattle.index.specs.declared.Built.{Built}
 use Rattle.segment.specs.Digest.{layout_in}
 use Rattle.segment.specs.declared.Edition.TheVariants.{First, Second}
 use Rattle.index.specs.BuildLaws.{Holds, log_in}
@@ -208,15 +207,15 @@ module _ (area : List ℕ) (S map n m : ℕ) (order : List ℕ) (long : length a
   built-rule few = go tally refl told
     where
       go : (s : Tally) → tally ≡ s → Tells S m (log_in area S map n) s → Holds S m (log_in area S map n) (finished m tally)
-      go (counted cells k) e w = rw e (record { answers = ap Built.Keys w.keys; rule = w.rule; long = w.long })
+      go (counted cells k) e w = rw e (record { answers = ap Some w.keys; rule = w.rule; long = w.long })
       go over e w = absurd (omega (arith, ltb-false (m - 1) (length (keys_of (log_in area S map n))) few))
 
   -- more: the cells are all 0
-  pub built-over : keys_bad m (log_in area S map n) ≡ true → built area S map order m ≡ record { answer = Built.TooMany; cells = replicate m 0 }
+  pub built-over : keys_bad m (log_in area S map n) ≡ true → built area S map order m ≡ record { answer = None; cells = replicate m 0 }
   unfolding Tells finished
   built-over many = go tally refl told
     where
-      go : (s : Tally) → tally ≡ s → Tells S m (log_in area S map n) s → finished m tally ≡ record { answer = Built.TooMany; cells = replicate m 0 }
+      go : (s : Tally) → tally ≡ s → Tells S m (log_in area S map n) s → finished m tally ≡ record { answer = None; cells = replicate m 0 }
       go (counted cells k) e w =
           absurd (omega (arith, w.keys, w.few, ltb-true (m - 1) (length (keys_of (log_in area S map n))) many))
       go over e w = ap (finished m) e

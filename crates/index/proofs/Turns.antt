@@ -1,5 +1,5 @@
 -- Laws of: Rebuilding at each test of the code. Premises are the tests as the code has them, and what its callees give.
-use Rattle.std.specs.Prelude.{ℕ, ◌+◌, ◌-◌, ◌*◌, ◌^◌, ◌≤◌, ◌<◌, ◌≡◌, refl, Bool, true, false, ltb, leb, length, get_or, drop, set}
+use Rattle.std.specs.Prelude.{ℕ, ◌+◌, ◌-◌, ◌*◌, ◌^◌, ◌≤◌, ◌<◌, ◌≡◌, refl, Bool, true, false, ltb, leb, length, get_or, drop, set, Some, None}
 use Rattle.std.proofs.Math.Path.{sym, ap, subst}
 use Rattle.std.proofs.Common.{◌∙◌, mul-le-mul, add-one, arith, length-set, drop_of_length-le, drop-cons, ltb-true, ltb-false, leb-true}
 use mathlib.Core.List.{List, [], ◌∷◌, ◌++◌, append-nil}
@@ -22,12 +22,11 @@ use Rattle.slot_map.proofs.BitLaws.{bit-above, clear-named}
 use Rattle.model.specs.Log.{Item, Placed, segment_of, place_of, placed_in}
 use Rattle.index.specs.Insert.{Insertion, inserted, Tally, counted, over, tallied, insert_one, insert_next, insert_all}
 use Rattle.index.proofs.InsertLaws.{tally-new, tally-over, tally-newer, tally-older, tally-full, insert-newer, insert-older, insert-new, insert-full, insert-over}
-use Rattle.index.specs.Build.{entries_at, in_log, slot_entries, listed_slot, listed, tally_of, Rebuilt, finished, built}
+use Rattle.index.specs.Build.{entries_at, in_log, slot_entries, listed_slot, listed, tally_of, Rebuilt, finished, built, Built}
 use Rattle.index.proofs.Entries.{entries-entry, entries-end, entries-damage}
 use Rattle.index.specs.Search.{version_at, search_for}
 use Rattle.index.specs.declared.Found.{Found as Searched}
 use Rattle.index.specs.declared.Inserted.{Inserted}
-use Rattle.index.specs.declared.Built.{Built}
 use Rattle.segment.specs.Digest.{layout_in}
 use Rattle.index.specs.Turns.{Few}
 
@@ -51,23 +50,23 @@ module _ (area : List ℕ) (place : ℕ) (k : Key) (version : ℕ) (cells : List
   one : tallied r after n ≡ insert_one area place k version cells n
   one = ap (λ (i : Insertion). tallied i.answer i.cells n) e
 
-  pub one-new : r ≡ Inserted.New → n + 1 < length after → tally_of (Built.Keys (n + 1)) after ≡ insert_one area place k version cells n
+  pub one-new : r ≡ Inserted.New → n + 1 < length after → tally_of (Some (n + 1)) after ≡ insert_one area place k version cells n
   unfolding tally_of
   one-new p h = sym (tally-new after n h) ∙ ap (λ (i : Inserted). tallied i after n) (sym p) ∙ one
 
-  pub one-over : r ≡ Inserted.New → length after ≤ n + 1 → tally_of Built.TooMany after ≡ insert_one area place k version cells n
+  pub one-over : r ≡ Inserted.New → length after ≤ n + 1 → tally_of None after ≡ insert_one area place k version cells n
   unfolding tally_of
   one-over p h = sym (tally-over after n h) ∙ ap (λ (i : Inserted). tallied i after n) (sym p) ∙ one
 
-  pub one-newer : {old : ℕ} → r ≡ Inserted.Newer old → tally_of (Built.Keys n) after ≡ insert_one area place k version cells n
+  pub one-newer : {old : ℕ} → r ≡ Inserted.Newer old → tally_of (Some n) after ≡ insert_one area place k version cells n
   unfolding tally_of
   one-newer {old} p = sym (tally-newer after n old) ∙ ap (λ (i : Inserted). tallied i after n) (sym p) ∙ one
 
-  pub one-older : r ≡ Inserted.Older → tally_of (Built.Keys n) after ≡ insert_one area place k version cells n
+  pub one-older : r ≡ Inserted.Older → tally_of (Some n) after ≡ insert_one area place k version cells n
   unfolding tally_of
   one-older p = sym (tally-older after n) ∙ ap (λ (i : Inserted). tallied i after n) (sym p) ∙ one
 
-  pub one-full : r ≡ Inserted.Full → tally_of Built.TooMany after ≡ insert_one area place k version cells n
+  pub one-full : r ≡ Inserted.Full → tally_of None after ≡ insert_one area place k version cells n
   unfolding tally_of
   one-full p = sym (tally-full after n) ∙ ap (λ (i : Inserted). tallied i after n) (sym p) ∙ one
 
@@ -128,14 +127,14 @@ module _ (L : Layout) (area : List ℕ) (S i at : ℕ) (cells : List ℕ) (n : �
   is : r ≡ next_of L (entry_at L (segment_of area S i) at)
   is = read ∙ ap (λ (l : List ℕ). next_of L (entry_at L l at)) cut
 
-  stops : entries_at L (segment_of area S i) at ≡ [] → tally_of (Built.Keys n) cells ≡ whole
+  stops : entries_at L (segment_of area S i) at ≡ [] → tally_of (Some n) cells ≡ whole
   unfolding tally_of insert_all placed_in
   stops none = sym (ap (λ (l : List Item). insert_all area S (placed_in L i l) (counted cells n)) none) ∙ from
 
-  pub slot-end : r ≡ N.End → tally_of (Built.Keys n) cells ≡ whole
+  pub slot-end : r ≡ N.End → tally_of (Some n) cells ≡ whole
   slot-end e = stops (entries-end L (segment_of area S i) at (next-end L (segment_of area S i) at r is e))
 
-  pub slot-damage : r ≡ N.Damage → tally_of (Built.Keys n) cells ≡ whole
+  pub slot-damage : r ≡ N.Damage → tally_of (Some n) cells ≡ whole
   slot-damage e = stops (entries-damage L (segment_of area S i) at (next-damage L (segment_of area S i) at r is e))
 
   module _ (h : Header) (e : r ≡ N.Entry h) where
@@ -160,14 +159,14 @@ module _ (L : Layout) (area : List ℕ) (S i at : ℕ) (cells : List ℕ) (n : �
               ∙ ap (λ (l : List Item). insert_all area S (placed_in L i l) (counted cells n)) (sym (entries-entry L (segment_of area S i) at x p))
               ∙ from
 
-      pub slot-over : b ≡ Built.TooMany → tally_of Built.TooMany after ≡ whole
+      pub slot-over : b ≡ None → tally_of None after ≡ whole
       unfolding tally_of
       slot-over p =
           sym (insert-over area S (placed_in L i (entries_at L (segment_of area S i) (at + h.length))))
           ∙ ap (λ (j : Built). insert_all area S (placed_in L i (entries_at L (segment_of area S i) (at + h.length))) (tally_of j after)) (sym p)
           ∙ rest
 
-      module _ (m : ℕ) (p : b ≡ Built.Keys m) where
+      module _ (m : ℕ) (p : b ≡ Some m) where
         -- behind is where the walk goes on
         pub slot_next : (behind : ℕ) → behind ≡ at + h.length
             → insert_all area S (placed_in L i (entries_at L (segment_of area S i) behind)) (counted after m) ≡ whole
@@ -209,7 +208,7 @@ slot_small i S h g = omega (arith, mul-le-mul {n₁ = i} {m₁ = S} {n₂ = 255}
 -- ---- a slot of the order list
 
 module _ (area : List ℕ) (S map i : ℕ) (cells : List ℕ) (n : ℕ) (t : Bool) (is : t ≡ in_log (length area) S map i) where
-  pub listed-out : t ≡ false → tally_of (Built.Keys n) cells ≡ insert_all area S (listed_slot area S map i) (counted cells n)
+  pub listed-out : t ≡ false → tally_of (Some n) cells ≡ insert_all area S (listed_slot area S map i) (counted cells n)
   unfolding tally_of insert_all
   listed-out e = rw (pick-false (in_log (length area) S map i) (slot_entries (layout_in (segment_of area S i)) area S i) [] (sym is ∙ e))
 
@@ -228,7 +227,7 @@ insert-append area S (x ∷ a) b s = insert-append area S a b (insert_next area 
 
 module _ (area : List ℕ) (S map : ℕ) (order : List ℕ) (j : ℕ) (cells : List ℕ) (n : ℕ) (whole : Tally)
     (from : insert_all area S (listed area S map (drop j order)) (counted cells n) ≡ whole) where
-  pub order-end : length order ≤ j → tally_of (Built.Keys n) cells ≡ whole
+  pub order-end : length order ≤ j → tally_of (Some n) cells ≡ whole
   unfolding tally_of insert_all listed
   order-end h = ap (λ (l : List ℕ). insert_all area S (listed area S map l) (counted cells n)) (sym (drop_of_length-le order h)) ∙ from
 
@@ -246,14 +245,14 @@ module _ (area : List ℕ) (S map : ℕ) (order : List ℕ) (j : ℕ) (cells : L
         ∙ ap (λ (l : List ℕ). insert_all area S (listed area S map l) (counted cells n)) behind
         ∙ from
 
-    pub order-over : b ≡ Built.TooMany → tally_of Built.TooMany after ≡ whole
+    pub order-over : b ≡ None → tally_of None after ≡ whole
     unfolding tally_of
     order-over p =
         sym (insert-over area S (listed area S map (drop (j + 1) order)))
         ∙ ap (λ (q : Built). insert_all area S (listed area S map (drop (j + 1) order)) (tally_of q after)) (sym p)
         ∙ on
 
-    module _ (k : ℕ) (p : b ≡ Built.Keys k) where
+    module _ (k : ℕ) (p : b ≡ Some k) where
       pub order-next : insert_all area S (listed area S map (drop (j + 1) order)) (counted after k) ≡ whole
       unfolding tally_of
       order-next = ap (λ (q : Built). insert_all area S (listed area S map (drop (j + 1) order)) (tally_of q after)) (sym p) ∙ on
@@ -270,13 +269,13 @@ module _ (area : List ℕ) (S map : ℕ) (order : List ℕ) (m : ℕ) (free : Li
   tally : tally_of b after ≡ insert_all area S (listed area S map order) (counted (replicate m 0) 0)
   tally = all ∙ ap (λ (l : List ℕ). insert_all area S (listed area S map order) (counted l 0)) e
 
-  pub built-keys : (n : ℕ) → b ≡ Built.Keys n → ◌≡◌ {A = Rebuilt} (record { answer = Built.Keys n; cells = after }) (built area S map order m)
+  pub built-keys : (n : ℕ) → b ≡ Some n → ◌≡◌ {A = Rebuilt} (record { answer = Some n; cells = after }) (built area S map order m)
   unfolding tally_of finished
   built-keys n p = ap (λ (q : Built). finished m (tally_of q after)) (sym p) ∙ ap (finished m) tally
 
   -- r and cleared are what giving up leaves
   pub built-many :
-      b ≡ Built.TooMany → (r : Built) (cleared : List ℕ) → (r ≡ Built.TooMany) × (cleared ≡ replicate (length after) 0) → length after ≡ m →
+      b ≡ None → (r : Built) (cleared : List ℕ) → (r ≡ None) × (cleared ≡ replicate (length after) 0) → length after ≡ m →
       ◌≡◌ {A = Rebuilt} (record { answer = r; cells = cleared }) (built area S map order m)
   unfolding tally_of finished
   built-many p r cleared (er, ec) l =

@@ -1,5 +1,5 @@
 -- The index rebuilt from the slots of an order list, as a total function of any area, map and order.
-use Rattle.std.specs.Prelude.{ℕ, zero, suc, ◌+◌, ◌*◌, Bool, List, [], ◌∷◌, ◌++◌, leb, length, replicate}
+use Rattle.std.specs.Prelude.{ℕ, zero, suc, ◌+◌, ◌*◌, Bool, List, [], ◌∷◌, ◌++◌, leb, length, replicate, Some, None, Option}
 use Rattle.segment.specs.Choice.{pick, both}
 use Rattle.segment.specs.Layout.{Layout, digest_size}
 use Rattle.segment.specs.Digest.{layout_in}
@@ -7,7 +7,6 @@ use Rattle.segment.specs.Entry.{entry, end, damage, entry_at, size_of}
 use Rattle.slot_map.specs.Bit.{named}
 use Rattle.model.specs.Log.{Item, Placed, segment_of, placed_in}
 use Rattle.index.specs.Insert.{Tally, counted, over, insert_all}
-use Rattle.index.specs.declared.Built.{Built}
 
 -- the entries of a segment from an offset on, up to its end or to damage, which a log that is recovered does not have; f bounds how many there can be
 unfoldable pub entries_from : Layout → List ℕ → ℕ → ℕ → List Item
@@ -39,10 +38,14 @@ unfoldable pub listed : List ℕ → ℕ → ℕ → List ℕ → List Placed
 listed area S map [] = []
 listed area S map (i ∷ order) = listed_slot area S map i ++ listed area S map order
 
+-- the number of keys in a rebuilt index, or none where they are more than it may hold
+abbrev pub Built : Type 0
+Built = Option ℕ
+
 -- the tally that an answer stands for, with the cells
 unfoldable pub tally_of : Built → List ℕ → Tally
-tally_of (Built.Keys n) cells = counted cells n
-tally_of Built.TooMany cells = over
+tally_of (Some n) cells = counted cells n
+tally_of None cells = over
 
 -- What a rebuilding answers, and the cells that it leaves: with too many keys they are all 0.
 pub record Rebuilt : Type 0 where
@@ -50,8 +53,8 @@ pub record Rebuilt : Type 0 where
   pub cells : List ℕ
 
 unfoldable pub finished : ℕ → Tally → Rebuilt
-finished m (counted cells n) = record { answer = Built.Keys n; cells = cells }
-finished m over = record { answer = Built.TooMany; cells = replicate m 0 }
+finished m (counted cells n) = record { answer = Some n; cells = cells }
+finished m over = record { answer = None; cells = replicate m 0 }
 
 abbrev pub built : List ℕ → ℕ → ℕ → List ℕ → ℕ → Rebuilt
 built area S map order m = finished m (insert_all area S (listed area S map order) (counted (replicate m 0) 0))

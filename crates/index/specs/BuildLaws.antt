@@ -1,5 +1,5 @@
 -- Rebuilding the index of an undamaged log gives the index rule and the number of keys, or finds too many, whatever the order.
-use Rattle.std.specs.Prelude.{ℕ, zero, suc, ◌+◌, ◌*◌, ◌-◌, ◌^◌, ◌≤◌, ◌<◌, ◌≡◌, ◌⊎◌, Bool, eqb, leb, length}
+use Rattle.std.specs.Prelude.{ℕ, zero, suc, ◌+◌, ◌*◌, ◌-◌, ◌^◌, ◌≤◌, ◌<◌, ◌≡◌, ◌⊎◌, Bool, eqb, leb, length, Some}
 use Rattle.std.proofs.Math.Path.{refl, ap}
 use Rattle.std.proofs.Common.{sym, ◌∙◌, subst, inl, inr, arith}
 use Rattle.std.proofs.Math.Bool.{true, false}
@@ -12,14 +12,13 @@ use borrow.Author.Tests.{le-leb, eqb-true, ltb-true, ltb-false, not-false}
 use Rattle.slot_map.specs.Bit.{named}
 use Rattle.model.specs.Log.{Placed, views_of, log_of, keys_of}
 use Rattle.model.specs.Index.{IndexRule}
-use Rattle.index.specs.Build.{Rebuilt}
-use Rattle.index.specs.declared.Built.{Built}
+use Rattle.index.specs.Build.{Rebuilt, Built}
 
 -- ---- the index of an undamaged log whose versions differ
 
 -- The number of a log's keys is told, and the cells keep the rule for it.
 pub record Holds (S m : ℕ) (log : List Placed) (r : Rebuilt) : Type 0 where
-  pub answers : r.answer ≡ Built.Keys (length (keys_of log))
+  pub answers : r.answer ≡ Some (length (keys_of log))
   pub rule : IndexRule S log r.cells
   pub long : length r.cells ≡ m
 

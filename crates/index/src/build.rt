@@ -3,9 +3,9 @@ ghost use Rattle.std.specs.Prelude.{◌+◌, ◌*◌, ◌≤◌, ◌<◌, ◌≡
 ghost use Rattle.index.specs.Insert.{counted, insert_one, insert_all};
 ghost use Rattle.index.specs.Build.{in_log, slot_entries, listed_slot, listed, tally_of, Rebuilt, built};
 
+use crate::Found;
 use crate::put::{put, version_there};
 use crate::search::search;
-use crate::{Built, Found};
 use segment::area::cut;
 use segment::entries::{behind, next};
 use segment::layout::digest_size;
@@ -17,14 +17,10 @@ use slot_map::has_slot;
 fn clear(cells: &mut [u32])
     ensures { cells.new ≡ replicate (length cells.old) 0 }
 {
-    let mut i = 0;
-    while i < cells.len() {
-        cells[i] = 0;
-        i += 1;
-    }
+    cells.fill(0);
 }
 
-// One entry more, with the number of keys so far. It does what `insert` does, and not by it: a function that is called from the steps
+// One entry more, with the number of keys so far: how many they are then, none where they are more than the index may hold. It does what `insert` does, and not by it: a function that is called from the steps
 // too would not be put in line here, and a recovery takes a fifth longer then.
 fn index_entry(
     area: &[u8],
@@ -33,19 +29,19 @@ fn index_entry(
     key: Key,
     version: Version,
     keys: usize,
-) -> Built
+) -> Option<usize>
     requires { (place < 4294967295) × (keys ≤ length cells.old) }
     ensures { tally_of result cells.new
         ≡ insert_one area.now place key version.0 cells.old keys }
 {
     match search(area, cells, key) {
-        Found::Full => Built::TooMany,
+        Found::Full => None,
         Found::Free(i) => {
             put(cells, i, place);
             if keys + 1 < cells.len() {
-                return Built::Keys(keys + 1);
+                return Some(keys + 1);
             }
-            Built::TooMany
+            None
         }
         Found::At(i) => {
             let old = (cells[i] - 1) as usize;
@@ -53,7 +49,7 @@ fn index_entry(
             if there.0 < version.0 {
                 put(cells, i, place);
             }
-            Built::Keys(keys)
+            Some(keys)
         }
     }
 }
@@ -66,7 +62,7 @@ fn index_slot(
     slot: usize,
     size: usize,
     keys: usize,
-) -> Built
+) -> Option<usize>
     requires { (slot * size + size ≤ length area.now)
         × (slot * size + size < 4294967295)
         × (keys ≤ length cells.old) }
@@ -83,17 +79,14 @@ fn index_slot(
                 let place = start + at;
                 let key = header.key;
                 let version = header.version;
-                let Built::Keys(n) = index_entry(area, cells, place, key, version, keys) else {
-                    return Built::TooMany;
-                };
-                keys = n;
+                keys = index_entry(area, cells, place, key, version, keys)?;
                 at = behind(edition, at, header);
             }
             Next::End => {
-                return Built::Keys(keys);
+                return Some(keys);
             }
             Next::Damage => {
-                return Built::Keys(keys);
+                return Some(keys);
             }
         }
     }
@@ -128,54 +121,48 @@ fn index_listed(
     size: usize,
     map: u32,
     keys: usize,
-) -> Built
+) -> Option<usize>
     requires { (slot < 256) × (size ≤ 65536) × (keys ≤ length cells.old) }
     ensures { tally_of result cells.new
         ≡ insert_all area.now size (listed_slot area.now size map slot) (counted cells.old keys) }
 {
     if !in_log(area.len(), size, map, slot) {
-        return Built::Keys(keys);
+        return Some(keys);
     }
     let edition = edition_of(cut(size, area, slot));
     index_slot(edition, area, cells, slot, size, keys)
 }
 
 // The entries of the slots of the order list, one slot after the other, into cells that are free.
-fn index_order(area: &[u8], cells: &mut [u32], order: &[u8], size: usize, map: u32) -> Built
+fn index_order(area: &[u8], cells: &mut [u32], order: &[u8], size: usize, map: u32) -> Option<usize>
     requires { size ≤ 65536 }
     ensures { tally_of result cells.new
         ≡ insert_all area.now size (listed area.now size map order.now) (counted cells.old 0) }
 {
     let mut keys = 0;
-    let mut j = 0;
-    while j < order.len() {
-        let slot = slot_of(order[j]);
-        let Built::Keys(n) = index_listed(area, cells, slot, size, map, keys) else {
-            return Built::TooMany;
-        };
-        keys = n;
-        j += 1;
+    for slot in order {
+        keys = index_listed(area, cells, slot_of(*slot), size, map, keys)?;
     }
-    Built::Keys(keys)
+    Some(keys)
 }
 
 // Too many keys: no cell is left filled.
-fn give_up(index: &mut [u32]) -> Built
-    ensures { (result ≡ Built.TooMany) × (index.new ≡ replicate (length index.old) 0) }
+fn give_up(index: &mut [u32]) -> Option<usize>
+    ensures { (result ≡ None) × (index.new ≡ replicate (length index.old) 0) }
 {
     clear(index);
-    Built::TooMany
+    None
 }
 
 // The index of the log: the slots of the map in the order of the list. With too many keys every cell is left 0.
-pub fn build(area: &[u8], cells: &mut [u32], order: &[u8], size: usize, map: u32) -> Built
+pub fn build(area: &[u8], cells: &mut [u32], order: &[u8], size: usize, map: u32) -> Option<usize>
     requires { size ≤ 65536 }
     ensures { ◌≡◌ {A = Rebuilt} (record { answer = result; cells = cells.new })
         (built area.now size map order.now (length cells.old)) }
 {
     clear(cells);
     match index_order(area, cells, order, size, map) {
-        Built::Keys(n) => Built::Keys(n),
-        Built::TooMany => give_up(cells),
+        Some(n) => Some(n),
+        None => give_up(cells),
     }
 }

@@ -23,10 +23,3 @@ pub enum Inserted {
     Older,
     Full,
 }
-
-// The number of keys in a rebuilt index, or more of them than it may hold.
-#[derive(Clone, Copy)]
-pub enum Built {
-    Keys(usize),
-    TooMany,
-}

@@ -45,8 +45,7 @@ fn search_up(area: &[u8], cells: &[u32], key: Key, from: u16, end: u16) -> Found
     requires { (from ≤ end) × (end ≤ length cells.now) }
     ensures { result ≡ probe (cell_has area.now key) cells.now (end - from) from }
 {
-    let mut at = from;
-    while at < end {
+    for at in from..end {
         let cell = cells[at as usize];
         if cell == 0 {
             return Found::Free(at as usize);
@@ -54,7 +53,6 @@ fn search_up(area: &[u8], cells: &[u32], key: Key, from: u16, end: u16) -> Found
         if cell_has(area, key, cell) {
             return Found::At(at as usize);
         }
-        at += 1;
     }
     Found::Full
 }

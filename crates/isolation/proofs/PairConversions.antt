@@ -14,7 +14,7 @@ use Rattle.segment.specs.Entry.{Entry}
 use Rattle.segment.specs.Digest.{encoded_digest}
 use Rattle.segment.specs.declared.Digest.{Digest}
 use Rattle.record.specs.Answers.{taken, said_by, convert_said}
-use Rattle.record.specs.declared.ConvertAnswer.{ConvertAnswer}
+use Rattle.record.specs.Answered.{ConvertAnswer}
 use Rattle.record.specs.declared.Refusal.{Refusal}
 use Rattle.record.specs.declared.Refusal.TheVariants.{Geometry, MixedEditions}
 use Rattle.model.specs.Log.{View, Item, Scan, Head, views_of, head_of, items_of}

@@ -1,5 +1,6 @@
 -- Questions in two worlds that differ in hidden values alone: a read answers the same, and so does a read of a value that is not
 -- hidden.
+use Rattle.std.specs.Prelude.{Ok}
 use Prim.Native.Nat.{ℕ, ◌+◌}
 use native.Mathlib.Omega.{arith}
 use mathlib.Core.Path.{◌≡◌, refl, sym, ap, ◌∙◌, subst}
@@ -16,9 +17,7 @@ use Rattle.record.specs.Answers.{read_said}
 use Rattle.slot_map.specs.Bit.{named}
 use Rattle.record.specs.Pairs.{join_said}
 use Rattle.record.specs.Switch.{new_layout, as_recovered}
-use Rattle.record.specs.declared.Joined.{Joined}
-use Rattle.record.specs.declared.Reading.{Reading}
-use Rattle.record.specs.declared.ReadAnswer.{ReadAnswer}
+use Rattle.record.specs.Answered.{Joined, Reading, ReadAnswer}
 use Rattle.record.specs.declared.Refusal.{Refusal}
 use Rattle.record.specs.declared.Record.{Record}
 use Rattle.record.specs.declared.Tables.{Tables}
@@ -85,7 +84,7 @@ module _ (of : ℕ → Bool) where
   answer-hidden (some c) o = refl
   answer-hidden none none = refl
   answer-hidden none (some x) =
-      ap (ReadAnswer.Present (record { 0 = x.entry.version })) (value-kind x.layout (of x.entry.table) x.entry.value)
+      ap ((λ z0. Ok (record { version = (record { 0 = x.entry.version }); kind = z0 }))) (value-kind x.layout (of x.entry.table) x.entry.value)
 
   -- the same cause tells the same
   pub told_same :

@@ -10,7 +10,7 @@ use Rattle.segment.specs.Choice.{pick}
 use Rattle.segment.specs.Layout.{Layout}
 use Rattle.record.specs.Answers.{recover_said}
 use Rattle.record.specs.declared.Pending.TheVariants.{Idle}
-use Rattle.record.specs.declared.Recovery.{Recovery}
+use Rattle.record.specs.Answered.{Recovery}
 use Rattle.record.specs.declared.Refusal.{Refusal}
 use Rattle.record.specs.declared.Record.{Record}
 use Rattle.model.specs.Causes.{first_cause}

@@ -12,7 +12,7 @@ use Rattle.segment.specs.declared.Key.{Key}
 use Rattle.record.specs.Answers.{read_said}
 use Rattle.record.specs.Range.{fits_lent}
 use Rattle.record.specs.Reach.{holds_table}
-use Rattle.record.specs.declared.ReadAnswer.{ReadAnswer}
+use Rattle.record.specs.Answered.{ReadAnswer}
 use Rattle.record.specs.declared.Refusal.{Refusal}
 use Rattle.record.specs.declared.Refusal.TheVariants.{BadRecord}
 use Rattle.record.specs.declared.Record.{Record}

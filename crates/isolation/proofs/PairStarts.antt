@@ -1,4 +1,5 @@
 -- A start in two worlds that differ in hidden values alone: it answers the same, and they differ so again.
+use Rattle.std.specs.Prelude.{Ok}
 use Prim.Native.Nat.{ℕ, ◌≤◌}
 use mathlib.Core.Path.{◌≡◌, refl, sym, ap, ◌∙◌, subst, subst⁻¹}
 use mathlib.Core.Bool.{Bool}
@@ -16,8 +17,7 @@ use Rattle.record.specs.Answers.{start_said, with_pending}
 use Rattle.record.specs.Refusals.{number_of_refusal}
 use Rattle.record.specs.Switch.{unswitched, as_recovered}
 use Rattle.record.specs.declared.Refusal.{Refusal}
-use Rattle.record.specs.declared.Start.{Start}
-use Rattle.record.specs.declared.StartAnswer.{StartAnswer}
+use Rattle.record.specs.Answered.{Start, StartAnswer}
 use Rattle.record.specs.declared.Record.{Record}
 use Rattle.model.specs.Log.{Placed}
 use Rattle.model.specs.Causes.{first_cause}
@@ -116,7 +116,7 @@ module _ (of any : ℕ → Bool) (L : Layout) (area area' : List ℕ) (h h' : He
             same = same;
           });
     },
-    ap (λ (k : ℕ). start_said (StartAnswer.Started k)) stores,
+    ap (λ (k : ℕ). start_said (Ok k)) stores,
   )
     where
       logs : hidden_log of log ≡ hidden_log of log'

@@ -1,4 +1,5 @@
 -- A step in two worlds that differ in hidden values alone: it answers the same, and they differ so again.
+use Rattle.std.specs.Prelude.{Ok, Err}
 use Prim.Native.Nat.{ℕ, zero, suc, ◌-◌}
 use native.Mathlib.Omega.{arith}
 use mathlib.Core.Path.{◌≡◌, refl, sym, ap, ◌∙◌, subst, subst⁻¹}
@@ -12,8 +13,8 @@ use Rattle.segment.specs.Layout.{Layout}
 use Rattle.record.specs.Answers.{step_said, with_pending}
 use Rattle.record.specs.Switch.{unswitched, as_recovered}
 use Rattle.record.specs.declared.Refusal.{Refusal}
-use Rattle.record.specs.declared.Stepped.{Stepped}
-use Rattle.record.specs.declared.StepAnswer.{StepAnswer}
+use Rattle.record.specs.Answered.{Stepped, StepAnswer}
+use Rattle.record.specs.declared.Progress.{Progress}
 use Rattle.record.specs.declared.Record.{Record}
 use Rattle.model.specs.Log.{Placed}
 use Rattle.model.specs.Causes.{first_cause}
@@ -168,7 +169,7 @@ module _ (of : ℕ → Bool) (L : Layout) (n s : ℕ) (h h' : Held) where
               index-long = long;
               phase = resting (idle-of fin.edition x.idle.slots x.idle.size x.idle.cells after (unswitched fin) recovers);
             },
-        ap (λ (v : ℕ). step_said (StepAnswer.Done (record { 0 = v })))
+        ap (λ (v : ℕ). step_said (Ok (Progress.Done (record { 0 = v }))))
             (sym (told-hidden of x.idle x.operation) ∙ ap (told_version x.idle) x.same ∙ told-hidden of x.idle x.operation'),
       )
         where
@@ -238,7 +239,7 @@ module _ (of : ℕ → Bool) (L : Layout) (n s : ℕ) (h h' : Held) where
           subst⁻¹ (λ (l : List ℕ). StepBoth l cells₁ a area₁' cells₁' a') one.area_same
           (subst⁻¹ (λ (l : List ℕ). StepBoth area cells₁ a l cells₁' a') other.area_same
           (subst⁻¹ (λ (y : Stepped). StepBoth area cells₁ y area' cells₁' a') one.answers
-          (subst⁻¹ (λ (y : Stepped). StepBoth area cells₁ (record { answer = StepAnswer.Refused c; rec = h.rec }) area' cells₁' y) other.answers (
+          (subst⁻¹ (λ (y : Stepped). StepBoth area cells₁ (record { answer = Err c; rec = h.rec }) area' cells₁' y) other.answers (
             alike,
             λ K image.
                 subst (λ (M : Layout). HeldPair of M area area' (record { rec = h.rec; cells = cells₁; work = h.work }) (record { rec = h.rec; cells = cells₁'; work = h'.work }))

@@ -9,7 +9,7 @@ use Rattle.segment.specs.Layout.{Layout}
 use Rattle.record.specs.Switch.{switched_on, switch_said}
 use Rattle.record.specs.declared.Record.{Record}
 use Rattle.record.specs.declared.Refusal.{Refusal}
-use Rattle.record.specs.declared.Switching.{Switching}
+use Rattle.record.specs.Answered.{Switching}
 use Rattle.model.specs.Causes.{first_cause}
 use Rattle.model.specs.Refused.{is_pending}
 use Rattle.model.specs.Switching.{switch_causes, switching, SwitchPromise}

@@ -1,5 +1,6 @@
 -- The next store told in two worlds that differ in hidden values alone: the same refusal, and the same place. The byte may be of a hidden
 -- value, and nothing is said of it.
+use Rattle.std.specs.Prelude.{Ok}
 use Prim.Native.Nat.{ℕ, zero, suc, ◌+◌, ◌*◌}
 use native.Mathlib.Omega.{arith}
 use mathlib.Core.Path.{◌≡◌, refl, sym, ap, ◌∙◌, subst, subst⁻¹}
@@ -11,12 +12,11 @@ use lib.ListN.{length, get_or, drop, length-drop}
 use Rattle.segment.specs.Choice.{pick}
 use Rattle.segment.specs.Layout.{Layout}
 use Rattle.record.specs.Answers.{taken}
-use Rattle.record.specs.declared.Foretold.{Foretold}
+use Rattle.record.specs.Answered.{Foretold, TellAnswer}
 use Rattle.record.specs.declared.Pending.{Pending}
 use Rattle.record.specs.declared.Pending.TheVariants.{Idle, Append, NewHead, Clean, Forget}
 use Rattle.record.specs.declared.Record.{Record}
 use Rattle.record.specs.declared.Refusal.{Refusal}
-use Rattle.record.specs.declared.TellAnswer.{TellAnswer}
 use Rattle.model.specs.Log.{Placed}
 use Rattle.model.specs.Causes.{first_cause}
 use Rattle.model.specs.Operations.{stores_from, commit, plan_of, plan_for, laid, log_now}
@@ -105,7 +105,7 @@ module _ (of : ℕ → Bool) (L : Layout) (area area' work work' : List ℕ) (h 
     Goal = SameNumbers (telling a.answer) (telling a'.answer)
 
     -- both are told a store at one place
-    at_place : (place q byte byte' : ℕ) → a.answer ≡ TellAnswer.At place byte → a'.answer ≡ TellAnswer.At q byte' → place ≡ q → Goal
+    at_place : (place q byte byte' : ℕ) → a.answer ≡ Ok (record { place = place; byte = byte }) → a'.answer ≡ Ok (record { place = q; byte = byte' }) → place ≡ q → Goal
     at_place place q byte byte' e e' same =
         ap (λ (x : TellAnswer). numbers_of (telling x)) e ∙ ap (λ (k : ℕ). record { said = taken; value = []; place = k }) same
         ∙ sym (ap (λ (x : TellAnswer). numbers_of (telling x)) e')

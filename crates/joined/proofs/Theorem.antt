@@ -21,17 +21,12 @@ use Rattle.record.specs.Pairs.{PairSaid, none_said, join_said}
 use Rattle.record.specs.Range.{fits_lent}
 use Rattle.record.specs.Refusals.{number_of_refusal}
 use Rattle.record.specs.Switch.{new_layout, unswitched}
-use Rattle.record.specs.declared.Joined.{Joined}
-use Rattle.record.specs.declared.JoinAnswer.{JoinAnswer}
+use Rattle.record.specs.Answered.{Joined, Start, Stepped}
 use Rattle.record.specs.declared.Pending.{Pending}
 use Rattle.record.specs.declared.Pending.TheVariants.{Idle}
 use Rattle.record.specs.declared.Record.{Record}
 use Rattle.record.specs.declared.Refusal.{Refusal}
 use Rattle.record.specs.declared.Refusal.TheVariants.{BadRecord, WorkShort, Busy, NoRoom, BadVictims, KeptTooLong, NumbersSpent, NoPair}
-use Rattle.record.specs.declared.Start.{Start}
-use Rattle.record.specs.declared.StartAnswer.{StartAnswer}
-use Rattle.record.specs.declared.Stepped.{Stepped}
-use Rattle.record.specs.declared.StepAnswer.{StepAnswer}
 use Rattle.model.specs.Log.{Placed}
 use Rattle.model.specs.Causes.{when, first_cause}
 use Rattle.model.specs.Recovery.{recovered}

@@ -1,7 +1,7 @@
 -- 02, R-7, over runs with demand 3's premises, so in stores that are switched or not, with logs of one edition or both (R-13): where a
 -- write was refused with 12 and two slots are named to be joined, their cleaning is accepted, and after its last step so is the same write.
 -- And where none are named, no two log slots can be cleaned into one head.
-use Rattle.std.specs.Prelude.{ℕ, ◌≤◌, ◌<◌, ◌≡◌, true, List}
+use Rattle.std.specs.Prelude.{ℕ, ◌≤◌, ◌<◌, ◌≡◌, true, List, Ok}
 use Rattle.std.proofs.Math.Option.{some}
 use Rattle.word.specs.Number.{Bytes}
 use Rattle.segment.specs.Layout.{Layout, number_of_layout}
@@ -9,7 +9,6 @@ use Rattle.segment.specs.declared.Key.{Key}
 use Rattle.slot_map.specs.Bit.{named}
 use Rattle.record.specs.Answers.{refusal}
 use Rattle.record.specs.Pairs.{none_said}
-use Rattle.record.specs.declared.FormatAnswer.{FormatAnswer}
 use Rattle.record.specs.declared.Pending.TheVariants.{Idle}
 use Rattle.model.specs.Operations.{write, clean}
 use Rattle.model.specs.Refused.{Lengths, Terms}
@@ -59,7 +58,7 @@ pub record Helps (n s : ℕ) (w : World) (t : Terms) (k : Key) (value : List ℕ
 
 abbrev pub JoinHelps : Layout → Type 0
 JoinHelps L =
-    (n s : ℕ) (area₀ area : List ℕ) → Bytes area₀ → FormatPromise (number_of_layout L) n s area₀ area FormatAnswer.Formatted → (es : List Event) (w : World) →
+    (n s : ℕ) (area₀ area : List ℕ) → Bytes area₀ → FormatPromise (number_of_layout L) n s area₀ area (Ok tt) → (es : List Event) (w : World) →
     Run n s (fresh_world area) es w → (t : Terms) (k : Key) (value : List ℕ) (d : Named n s w t k value) → NumbersLeft w →
     Helps n s w t k value d
 
@@ -70,7 +69,7 @@ LogSlots w i j = (h : Held) → w.held ≡ some h → (named h.rec.map i ≡ tru
 -- 23 and no other way: a cleaning of any two log slots is then refused with 14.
 abbrev pub NoJoin : Layout → Type 0
 NoJoin L =
-    (n s : ℕ) (area₀ area : List ℕ) → Bytes area₀ → FormatPromise (number_of_layout L) n s area₀ area FormatAnswer.Formatted → (es : List Event) (w : World) →
+    (n s : ℕ) (area₀ area : List ℕ) → Bytes area₀ → FormatPromise (number_of_layout L) n s area₀ area (Ok tt) → (es : List Event) (w : World) →
     Run n s (fresh_world area) es w → (lent : Lengths) (a : Answer) (x : World) → Moves n s w (called (asks joins) lent a) x →
     a ≡ pairing (none_said 23) → (i j : ℕ) → i < j → j < n → LogSlots w i j → (q : Terms) (lent' : Lengths) (a' : Answer) (y : World) →
     s ≤ lent'.work → Moves n s x (called (starts q (clean (pair_of i j))) lent' a') y → a' ≡ saying (refusal 14)

@@ -1,5 +1,6 @@
 -- The call at each of its tests, and that its answers keep the promise.
-use Rattle.std.specs.Prelude.{ℕ, ◌≤◌, ◌<◌, ◌≡◌, Bool, true, false, ltb, length, replicate}
+use Rattle.std.specs.Prelude.{ℕ, ◌≤◌, ◌<◌, ◌≡◌, Bool, true, false, ltb, length, replicate, Some, None, Ok, Err}
+use Rattle.std.specs.Prelude as std
 use Rattle.std.proofs.Math.Path.{refl, ap}
 use Rattle.std.proofs.Common.{sym, ◌∙◌, inl, inr, mul-le-mul, arith, le-ltb}
 use Rattle.std.proofs.Math.Bool.{not}
@@ -13,8 +14,7 @@ use Rattle.record.specs.Range.{fits_lent}
 use Rattle.record.specs.RangeLaws.{Lent, lent}
 use Rattle.record.specs.Switch.{new_layout}
 use Rattle.record.specs.Pairs.{join_said}
-use Rattle.record.specs.declared.Joined.{Joined}
-use Rattle.record.specs.declared.JoinAnswer.{JoinAnswer}
+use Rattle.record.specs.Answered.{Joined, JoinAnswer}
 use Rattle.record.specs.declared.Record.{Record}
 use Rattle.record.specs.declared.Refusal.{Refusal}
 use Rattle.record.specs.declared.Refusal.TheVariants.{BadRecord, WorkShort, Busy, NoPair}
@@ -24,12 +24,11 @@ use Rattle.model.specs.Refused.{Lengths, record_bad, is_pending}
 use Rattle.model.specs.Promises.{Genuine, Settled, read_lengths}
 use Rattle.model.specs.Joining.{SlotPair, lowest_pair, join_pair, join_early, join_causes, pair_answer, join_answer, pair_said, pair_said_by, JoinPromise}
 use Rattle.laws.specs.CauseLaws.{cause-first, cause-skip, cause-false, cause-none, first_some, first-none}
-use Rattle.starting.specs.declared.Check.{Check}
+use Rattle.record.specs.Answered.{Check}
 use Rattle.starting.specs.Checks.{checked, idle_causes}
 use Rattle.starting.specs.CheckLaws.{refused, skipped, checked-some, checked-none}
 use Rattle.cleaning.specs.KeptModel.{genuine-indexed}
 use Rattle.cleaning.specs.declared.Split.{Split}
-use Rattle.joining.specs.declared.Chosen.{Chosen}
 use Rattle.joining.specs.Notes.{NotesFit, note_all}
 use Rattle.joining.specs.Weights.{Rows, numbers_fit, weights_fit}
 use Rattle.joining.specs.WeightsLaws.{fits-same}
@@ -39,7 +38,7 @@ use Rattle.joining.specs.JoinModel.{log_split, pair-model}
 -- ---- the first tests
 
 module _ (L : Layout) (r : Record) (l : Lengths) {t : Bool} (e : t ≡ fits_lent L r l.area l.index) where
-  pub check-bad : not t ≡ true → Check.Refused BadRecord ≡ checked (first_cause (join_early L r l))
+  pub check-bad : not t ≡ true → Err BadRecord ≡ checked (first_cause (join_early L r l))
   check-bad h = refused (when (record_bad L r l) BadRecord) _ (sym (ap not e) ∙ h)
 
   -- with a work buffer of S bytes the tests of 3 and 5 are that of 5
@@ -53,7 +52,7 @@ module _ (L : Layout) (r : Record) (l : Lengths) {t : Bool} (e : t ≡ fits_lent
 
 -- by the numbers it is the pair by what is kept
 pub chosen-same :
-    (L : Layout) (area cells notes : List ℕ) (split : Split) (totals shares : List ℕ) (chosen : Chosen) → split.slots ≤ 32 →
+    (L : Layout) (area cells notes : List ℕ) (split : Split) (totals shares : List ℕ) (chosen : std.Option (ℕ × ℕ)) → split.slots ≤ 32 →
     notes ≡ note_all area cells split (replicate 5958 0) → Rows L area cells notes split split.slots totals shares →
     chosen ≡ chosen_is (lowest_pair (numbers_fit totals shares split (digest_size L)) split.slots) →
     chosen ≡ chosen_is (lowest_pair (weights_fit L area cells (note_all area cells split (replicate 5958 0)) split) split.slots)
@@ -64,21 +63,22 @@ chosen-same L area cells notes split totals shares chosen most is w e =
     (fits-same L area cells notes split split.slots totals shares most w))
     ∙ ap (λ (ns : List ℕ). chosen_is (lowest_pair (weights_fit L area cells ns split) split.slots)) is
 
-was-pair : (o : Option SlotPair) (i j : ℕ) → Chosen.Pair i j ≡ chosen_is o → o ≡ some (record { first = i; second = j })
+was-pair : (o : Option SlotPair) (i j : ℕ) → Some (i, j) ≡ chosen_is o → o ≡ some (record { first = i; second = j })
 unfolding chosen_is
 was-pair none i j e = cc
 was-pair (some p) i j e =
-    let one : p.first ≡ i = cc in
-    let two : p.second ≡ j = cc in
+    let same : (i, j) ≡ (p.first, p.second) = cc in
+    let one : p.first ≡ i = ap (λ (q : ℕ × ℕ). q.0) (sym same) in
+    let two : p.second ≡ j = ap (λ (q : ℕ × ℕ). q.1) (sym same) in
     λ x. some (record { first = one x; second = two x })
 
-was-nothing : (o : Option SlotPair) → Chosen.Nothing ≡ chosen_is o → o ≡ none
+was-nothing : (o : Option SlotPair) → None ≡ chosen_is o → o ≡ none
 unfolding chosen_is
 was-nothing none e = refl
 was-nothing (some p) e = cc
 
 -- both slots of a pair are below n
-pub pair_small : (fits : ℕ → ℕ → Bool) (n i j : ℕ) → Chosen.Pair i j ≡ chosen_is (lowest_pair fits n) → (i < n) × (j < n)
+pub pair_small : (fits : ℕ → ℕ → Bool) (n i j : ℕ) → Some (i, j) ≡ chosen_is (lowest_pair fits n) → (i < n) × (j < n)
 pair_small fits n i j e =
     let w = pair-given fits n (record { first = i; second = j }) (was-pair _ i j e) in
     (omega (arith, w.apart, w.below), w.below)
@@ -106,7 +106,7 @@ module _ (L : Layout) (area cells : List ℕ) (r : Record) where
   in-range : first_cause (join_early L r l) ≡ none → Lent L r (length area) (length cells)
   in-range e = lent L r (length area) (length cells) (not-false _ (cause-false (when (record_bad L r l) BadRecord) _ e))
 
-  pub fits-notes : Check.Passed ≡ checked (first_cause (join_early L r l)) → (split : Split) → split ≡ log_split r → NotesFit split area cells (replicate 5958 0)
+  pub fits-notes : (Ok tt) ≡ checked (first_cause (join_early L r l)) → (split : Split) → split ≡ log_split r → NotesFit split area cells (replicate 5958 0)
   fits-notes e split is =
       let f = in-range (checked-none _ e) in
       rw is
@@ -126,7 +126,7 @@ module _ (L : Layout) (area cells : List ℕ) (r : Record) where
         says = says;
       }
     where
-      early : (c : Refusal) → first_cause (join_early L r l) ≡ some c → a.answer ≡ JoinAnswer.Refused c
+      early : (c : Refusal) → first_cause (join_early L r l) ≡ some c → a.answer ≡ Err c
       early c q = e ∙ ap (λ (o : Option Refusal). join_answer o code_pair) (early-first code_pair c q)
 
       model : Option SlotPair
@@ -150,15 +150,15 @@ module _ (L : Layout) (area cells : List ℕ) (r : Record) where
       says (inl (c, q)) = ap join_said (early c q) ∙ sym (ap (λ (d : Option Refusal). pair_said_by d model) (early-first model c q))
       says (inr g) = ap join_said (exact g) ∙ answer-said (first_cause (join_causes L r l model)) model
 
-  pub join-refused : (c : Refusal) → Check.Refused c ≡ checked (first_cause (join_early L r l)) → JoinPromise L r area cells (record { answer = JoinAnswer.Refused c; rec = r })
+  pub join-refused : (c : Refusal) → Err c ≡ checked (first_cause (join_early L r l)) → JoinPromise L r area cells (record { answer = Err c; rec = r })
   unfolding join_answer
   join-refused c e =
-      promise (record { answer = JoinAnswer.Refused c; rec = r }) refl
+      promise (record { answer = Err c; rec = r }) refl
       (sym (ap (λ (d : Option Refusal). join_answer d code_pair) (early-first code_pair c (checked-some _ c e))))
 
   -- W is the edition that the code takes for the new head
-  module _ (e : Check.Passed ≡ checked (first_cause (join_early L r l))) (W : Layout) (new : W ≡ new_layout r) (split : Split)
-      (is : split ≡ log_split r) (chosen : Chosen)
+  module _ (e : (Ok tt) ≡ checked (first_cause (join_early L r l))) (W : Layout) (new : W ≡ new_layout r) (split : Split)
+      (is : split ≡ log_split r) (chosen : std.Option (ℕ × ℕ))
       (its : chosen ≡ chosen_is (lowest_pair (weights_fit W area cells (note_all area cells split (replicate 5958 0)) split) split.slots)) where
     code : chosen ≡ chosen_is code_pair
     code =
@@ -169,24 +169,24 @@ module _ (L : Layout) (area cells : List ℕ) (r : Record) where
     only : first_cause (join_causes L r l code_pair) ≡ first_cause (when (is_none code_pair) NoPair ∷ [])
     only = first-none (join_early L r l) (when (is_none code_pair) NoPair ∷ []) (checked-none _ e)
 
-    pub join-pair : (i j : ℕ) → chosen ≡ Chosen.Pair i j → JoinPromise L r area cells (record { answer = JoinAnswer.Pair i j; rec = r })
+    pub join-pair : (i j : ℕ) → chosen ≡ Some (i, j) → JoinPromise L r area cells (record { answer = Ok (record { first = i; second = j }); rec = r })
     unfolding join_answer pair_answer is_none first_cause
     join-pair i j p =
         let q : code_pair ≡ some (record { first = i; second = j }) = was-pair code_pair i j (sym p ∙ code) in
-        promise (record { answer = JoinAnswer.Pair i j; rec = r }) refl
+        promise (record { answer = Ok (record { first = i; second = j }); rec = r }) refl
         (sym
         (ap (λ (d : Option Refusal). join_answer d code_pair) (only ∙ cause-none (when (is_none code_pair) NoPair) [] (ap (λ (o : Option SlotPair). is_none o) q) refl)
         ∙ ap pair_answer q))
 
-    pub join-none : chosen ≡ Chosen.Nothing → JoinPromise L r area cells (record { answer = JoinAnswer.Refused NoPair; rec = r })
+    pub join-none : chosen ≡ None → JoinPromise L r area cells (record { answer = Err NoPair; rec = r })
     unfolding join_answer is_none
     join-none p =
-        promise (record { answer = JoinAnswer.Refused NoPair; rec = r }) refl
+        promise (record { answer = Err NoPair; rec = r }) refl
         (sym
         (ap (λ (d : Option Refusal). join_answer d code_pair)
         (only ∙ cause-first (when (is_none code_pair) NoPair) [] (ap (λ (o : Option SlotPair). is_none o) (was-nothing code_pair (sym p ∙ code))))))
 
-    pub pair-below : (i j : ℕ) → chosen ≡ Chosen.Pair i j → (i < 32) × (j < 32)
+    pub pair-below : (i j : ℕ) → chosen ≡ Some (i, j) → (i < 32) × (j < 32)
     pair-below i j p =
         let w = pair_small _ r.slots i j (sym p ∙ code) in
         let f = in-range (checked-none _ e) in

@@ -26,7 +26,7 @@ use Rattle.slot_map.proofs.BitLaws.{bit-pow-same, bit-pow-other, bit-add-same, b
 use Rattle.record.specs.Switch.{new_layout}
 use Rattle.record.specs.declared.Record.{Record}
 use Rattle.model.specs.Log.{View, Item, Placed, place_of, placed_size, segment_of, views_of, items_of, placed_in, log_of, same_keys, same_key, latest}
-use Rattle.model.specs.Operations.{log_now, is_version, is_highest, object_outside, is_kept, kept_of, kept, all_encoded}
+use Rattle.model.specs.Operations.{log_now, is_version, is_highest, object_outside, is_kept, kept_of, all_encoded}
 use Rattle.model.specs.Refused.{kept_too_long, kept_length}
 use Rattle.model.specs.Joining.{pair_of, join_fits, join_pair, lowest_pair}
 use Rattle.laws.specs.Members.{clash, In, first, Within}

@@ -2,24 +2,23 @@
 use Prim.Native.Nat.{ℕ, zero, suc, ◌+◌, ◌≤◌, ◌<◌}
 use Rattle.std.proofs.Math.Path.{◌≡◌, refl, sym, ap}
 use Rattle.std.proofs.Common.{◌∙◌, add-one, arith, ltb-true, lt-ltb}
-use Rattle.std.specs.Prelude.{Bool, true, false, List, ltb, length}
+use Rattle.std.specs.Prelude.{Bool, true, false, List, ltb, length, Some, None}
+use Rattle.std.specs.Prelude as std
 use Rattle.std.proofs.Math.Option.{Option, none, some}
 use Rattle.std.proofs.Math.Decide.{ℕ_discrete}
 use Rattle.segment.specs.Choice.{pick, both}
 use Rattle.segment.proofs.Choice.{pick_true, pick-false, both_true, both_left, both_right, both-false-left}
 use Rattle.model.specs.Joining.{or_else, first_of, SlotPair, partner_of, pair_with, lowest_pair}
 use Rattle.cleaning.specs.declared.Split.{Split}
-use Rattle.joining.specs.declared.Partner.{Partner}
-use Rattle.joining.specs.declared.Chosen.{Chosen}
 
--- the answers of the searches
-unfoldable pub partner_is : Option ℕ → Partner
-partner_is none = Partner.Nobody
-partner_is (some j) = Partner.Slot j
+-- the answers of the searches, as the code gives them
+unfoldable pub partner_is : Option ℕ → std.Option ℕ
+partner_is none = None
+partner_is (some j) = Some j
 
-unfoldable pub chosen_is : Option SlotPair → Chosen
-chosen_is none = Chosen.Nothing
-chosen_is (some p) = Chosen.Pair p.first p.second
+unfoldable pub chosen_is : Option SlotPair → std.Option (ℕ × ℕ)
+chosen_is none = None
+chosen_is (some p) = Some (p.first, p.second)
 
 -- N and S within their limits, a total for each slot and a number for every two.
 pub record PairsFit (split : Split) (totals shares : List ℕ) : Type 0 where
@@ -83,7 +82,7 @@ first-same f g (suc n) h = λ i. or_else (first-same f g n (λ k l. h k (omega a
 
 -- t is what the code finds for the pair
 module _ (fits : ℕ → ℕ → Bool) (n i j : ℕ) (t : Bool) (e : t ≡ both (ltb i j) (fits i j)) (before : partner_of fits j i ≡ none) where
-  pub partner-hit : j < n → t ≡ true → Partner.Slot j ≡ partner_is (partner_of fits n i)
+  pub partner-hit : j < n → t ≡ true → Some j ≡ partner_is (partner_of fits n i)
   unfolding partner_is
   partner-hit l h =
       sym (ap partner_is (first-hit (λ (k : ℕ). pick (both (ltb i k) (fits i k)) (some k) none) j j n l before (pick_true _ _ _ (sym e ∙ h))))
@@ -95,7 +94,7 @@ pub partner-start : (fits : ℕ → ℕ → Bool) (i : ℕ) → partner_of fits 
 unfolding first_of
 partner-start fits i = refl
 
-pub partner-end : (fits : ℕ → ℕ → Bool) (n i j : ℕ) → j ≡ n → partner_of fits j i ≡ none → Partner.Nobody ≡ partner_is (partner_of fits n i)
+pub partner-end : (fits : ℕ → ℕ → Bool) (n i j : ℕ) → j ≡ n → partner_of fits j i ≡ none → None ≡ partner_is (partner_of fits n i)
 unfolding partner_is
 partner-end fits n i j e before = sym (ap partner_is (ap (λ (k : ℕ). partner_of fits k i) (sym e) ∙ before))
 
@@ -106,25 +105,25 @@ abbrev pub pairs_below : (ℕ → ℕ → Bool) → ℕ → ℕ → Option SlotP
 pairs_below fits n k = first_of (λ i. pair_with i (partner_of fits n i)) k
 
 -- the partner that the code finds
-was-slot : (o : Option ℕ) (j : ℕ) → Partner.Slot j ≡ partner_is o → o ≡ some j
+was-slot : (o : Option ℕ) (j : ℕ) → Some j ≡ partner_is o → o ≡ some j
 unfolding partner_is
 was-slot none j e = cc
 was-slot (some k) j e = cc
 
-was-nobody : (o : Option ℕ) → Partner.Nobody ≡ partner_is o → o ≡ none
+was-nobody : (o : Option ℕ) → None ≡ partner_is o → o ≡ none
 unfolding partner_is
 was-nobody none e = refl
 was-nobody (some k) e = cc
 
-module _ (fits : ℕ → ℕ → Bool) (n i : ℕ) (p : Partner) (e : p ≡ partner_is (partner_of fits n i)) (before : pairs_below fits n i ≡ none) where
-  pub pair-hit : i < n → (j : ℕ) → p ≡ Partner.Slot j → Chosen.Pair i j ≡ chosen_is (lowest_pair fits n)
+module _ (fits : ℕ → ℕ → Bool) (n i : ℕ) (p : std.Option ℕ) (e : p ≡ partner_is (partner_of fits n i)) (before : pairs_below fits n i ≡ none) where
+  pub pair-hit : i < n → (j : ℕ) → p ≡ Some j → Some (i, j) ≡ chosen_is (lowest_pair fits n)
   unfolding chosen_is pair_with
   pair-hit l j h =
       sym
       (ap chosen_is
       (first-hit (λ (k : ℕ). pair_with k (partner_of fits n k)) (record { first = i; second = j }) i n l before (ap (pair_with i) (was-slot _ j (sym h ∙ e)))))
 
-  pub pair-skip : p ≡ Partner.Nobody → pairs_below fits n (i + 1) ≡ none
+  pub pair-skip : p ≡ None → pairs_below fits n (i + 1) ≡ none
   unfolding pair_with
   pair-skip h = first-skip (λ (k : ℕ). pair_with k (partner_of fits n k)) i before (ap (pair_with i) (was-nobody _ (sym h ∙ e)))
 
@@ -132,7 +131,7 @@ pub pair-start : (fits : ℕ → ℕ → Bool) (n : ℕ) → pairs_below fits n 
 unfolding first_of
 pair-start fits n = refl
 
-pub pair_end : (fits : ℕ → ℕ → Bool) (n i : ℕ) → i ≡ n → pairs_below fits n i ≡ none → Chosen.Nothing ≡ chosen_is (lowest_pair fits n)
+pub pair_end : (fits : ℕ → ℕ → Bool) (n i : ℕ) → i ≡ n → pairs_below fits n i ≡ none → None ≡ chosen_is (lowest_pair fits n)
 unfolding chosen_is
 pair_end fits n i e before = sym (ap chosen_is (ap (pairs_below fits n) (sym e) ∙ before))
 

@@ -8,15 +8,13 @@ ghost use Rattle.joining.specs.Weights.{weights_fit};
 ghost use Rattle.joining.specs.PairLaws.{chosen_is};
 ghost use Rattle.joining.specs.JoinModel.{log_split};
 
-use crate::Chosen;
 use crate::notes::note_all;
 use crate::pairs::lowest_pair;
 use crate::weights::weigh_all;
 use cleaning::Split;
 use record::range::fits_lent;
-use record::{JoinAnswer, Joined, Record, Refusal, new_edition};
+use record::{Answered, Joined, Pair, Record, Refusal, new_edition};
 use segment::Edition;
-use starting::Check;
 use starting::checks::check_idle;
 
 // The slots of the log.
@@ -32,17 +30,17 @@ fn split_of(rec: Record) -> Split
 }
 
 // 4 and 5.
-fn check(rec: Record, area: usize, index: usize) -> Check
+fn check(rec: Record, area: usize, index: usize) -> Result<(), Refusal>
     ensures { result ≡ checked (first_cause (join_early rec.edition rec (record { area = area; index = index; work = 0 }))) }
 {
     if !fits_lent(rec, area, index) {
-        return Check::Refused(Refusal::BadRecord);
+        return Err(Refusal::BadRecord);
     }
     check_idle(rec, rec.size as usize)
 }
 
 // The lowest pair of the log, where the new head is of that edition.
-fn choose(edition: Edition, area: &[u8], index: &[u32], split: Split) -> Chosen
+fn choose(edition: Edition, area: &[u8], index: &[u32], split: Split) -> Option<(usize, usize)>
     requires { NotesFit split area.now index.now (replicate 5958 0) }
     ensures { result ≡ chosen_is
         (lowest_pair
@@ -81,20 +79,20 @@ pub fn join(rec: Record, area: &[u8], index: &[u32]) -> Joined
 {
     let into = new_edition(rec);
     match check(rec, area.len(), index.len()) {
-        Check::Refused(c) => Joined {
-            answer: JoinAnswer::Refused(c),
+        Err(c) => Answered {
+            answer: Err(c),
             rec,
         },
-        Check::Passed => match choose(into, area, index, split_of(rec)) {
-            Chosen::Pair(i, j) => Joined {
-                answer: JoinAnswer::Pair {
+        Ok(()) => match choose(into, area, index, split_of(rec)) {
+            Some((i, j)) => Answered {
+                answer: Ok(Pair {
                     first: i as u32,
                     second: j as u32,
-                },
+                }),
                 rec,
             },
-            Chosen::Nothing => Joined {
-                answer: JoinAnswer::Refused(Refusal::NoPair),
+            None => Answered {
+                answer: Err(Refusal::NoPair),
                 rec,
             },
         },

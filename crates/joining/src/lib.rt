@@ -26,17 +26,3 @@ pub enum Share {
     Whole,
     Unless(usize),
 }
-
-// The slot to join with another, if there is one.
-#[derive(Clone, Copy)]
-pub enum Partner {
-    Slot(usize),
-    Nobody,
-}
-
-// The lowest pair, if there is one.
-#[derive(Clone, Copy)]
-pub enum Chosen {
-    Pair(usize, usize),
-    Nothing,
-}

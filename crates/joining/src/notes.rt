@@ -16,7 +16,7 @@ use segment::layout::{digest_size, head_size};
 use segment::reader::edition_of;
 use segment::{Edition, Key, Next};
 
-// More slots than one.
+// More slots than one. A note is a byte and no enum, which would take two: there is one for each entry.
 const SEVERAL: u8 = 64;
 
 // No entry of either edition is shorter, so that no two have the same note.
@@ -207,9 +207,7 @@ pub fn note_all(
         × ObjectsCounted into area.now cells.now split split.slots totals.new
         × TombstonesCounted into area.now split split.slots tombstones.new }
 {
-    let mut i = 0;
-    while i < split.slots {
+    for i in 0..split.slots {
         note_part(into, area, cells, notes, totals, tombstones, split, i);
-        i += 1;
     }
 }

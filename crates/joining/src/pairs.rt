@@ -6,7 +6,6 @@ ghost use Rattle.model.specs.Joining.{partner_of, lowest_pair};
 ghost use Rattle.joining.specs.Weights.{numbers_fit};
 ghost use Rattle.joining.specs.PairLaws.{PairsFit, partner_is, chosen_is};
 
-use crate::{Chosen, Partner};
 use cleaning::Split;
 use drive_log::slots::is_named;
 use segment::Edition;
@@ -41,34 +40,40 @@ fn pair_fits(
     both <= split.size + shares[a] as usize + shares[b] as usize
 }
 
-// The lowest slot above i that can be joined with it.
-fn partner(edition: Edition, totals: &[u32], shares: &[u16], split: Split, i: usize) -> Partner
+// The lowest slot above i that can be joined with it, if there is one.
+fn partner(
+    edition: Edition,
+    totals: &[u32],
+    shares: &[u16],
+    split: Split,
+    i: usize,
+) -> Option<usize>
     requires pairs_fit { PairsFit split totals.now shares.now }
     requires i_lt_slots { i < split.slots }
     ensures { result ≡ partner_is (partner_of (numbers_fit totals.now shares.now split (digest_size edition)) split.slots i) }
 {
-    let mut j = 0;
-    while j < split.slots {
+    for j in 0..split.slots {
         if pair_fits(edition, totals, shares, split, i, j) {
-            return Partner::Slot(j);
+            return Some(j);
         }
-        j += 1;
     }
-    Partner::Nobody
+    None
 }
 
-// The lowest pair: its lower slot decides first.
-pub fn lowest_pair(edition: Edition, totals: &[u32], shares: &[u16], split: Split) -> Chosen
+// The lowest pair, if there is one: its lower slot decides first.
+pub fn lowest_pair(
+    edition: Edition,
+    totals: &[u32],
+    shares: &[u16],
+    split: Split,
+) -> Option<(usize, usize)>
     requires { PairsFit split totals.now shares.now }
     ensures { result ≡ chosen_is (lowest_pair (numbers_fit totals.now shares.now split (digest_size edition)) split.slots) }
 {
-    let mut i = 0;
-    while i < split.slots {
-        let other = partner(edition, totals, shares, split, i);
-        if let Partner::Slot(j) = other {
-            return Chosen::Pair(i, j);
+    for i in 0..split.slots {
+        if let Some(j) = partner(edition, totals, shares, split, i) {
+            return Some((i, j));
         }
-        i += 1;
     }
-    Chosen::Nothing
+    None
 }

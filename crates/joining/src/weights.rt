@@ -171,11 +171,9 @@ pub fn weigh_all(
     ensures { Rows into area.now cells.now notes.now split split.slots totals.new
         shares.new }
 {
-    let mut i = 0;
-    while i < split.slots {
+    for i in 0..split.slots {
         weigh_part(
             into, area, cells, notes, tombstones, split, i, totals, shares,
         );
-        i += 1;
     }
 }

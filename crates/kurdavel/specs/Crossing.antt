@@ -1,27 +1,14 @@
 -- What each exported function promises, for every input: that the call behind it keeps its own promise on the record that the
 -- lent words say, that its answer is the number told, and that its record is what the words say afterwards. Words that are
 -- no record say the blank one, which every call refuses with 4; they stay as they are.
-use Rattle.std.specs.Prelude.{ℕ, ◌+◌, ◌≤◌, ◌<◌, ◌≡◌, Bool, true, false, List, length}
+use Rattle.std.specs.Prelude.{ℕ, ◌+◌, ◌≤◌, ◌<◌, ◌≡◌, Bool, true, false, List, length, Ok, Err}
 use Rattle.std.proofs.lemmas.List.Edits.{sets}
 use Rattle.segment.specs.declared.Key.{Key}
 use Rattle.record.specs.Answers.{format_said, recover_said, read_said, start_said, step_said, tell_said, fewest_said, convert_said}
 use Rattle.record.specs.Switch.{switch_said}
 use Rattle.record.specs.declared.Record.{Record}
-use Rattle.record.specs.declared.FormatAnswer.{FormatAnswer}
-use Rattle.record.specs.declared.ConvertAnswer.{ConvertAnswer}
-use Rattle.record.specs.declared.Recovery.{Recovery}
-use Rattle.record.specs.declared.RecoverAnswer.{RecoverAnswer}
-use Rattle.record.specs.declared.Reading.{Reading}
-use Rattle.record.specs.declared.ReadAnswer.{ReadAnswer}
-use Rattle.record.specs.declared.Start.{Start}
-use Rattle.record.specs.declared.StartAnswer.{StartAnswer}
-use Rattle.record.specs.declared.Stepped.{Stepped}
-use Rattle.record.specs.declared.StepAnswer.{StepAnswer}
-use Rattle.record.specs.declared.Fewest.{Fewest}
-use Rattle.record.specs.declared.FewestAnswer.{FewestAnswer}
-use Rattle.record.specs.declared.Foretold.{Foretold}
-use Rattle.record.specs.declared.TellAnswer.{TellAnswer}
-use Rattle.record.specs.declared.Switching.{Switching}
+use Rattle.record.specs.Answered.{FormatAnswer, ConvertAnswer, Recovery, RecoverAnswer, Reading, ReadAnswer, Start, StartAnswer, Stepped, StepAnswer, Fewest, FewestAnswer, Foretold, TellAnswer, Switching}
+use Rattle.record.specs.declared.Progress.{Progress}
 use Rattle.model.specs.Recovery.{image_layout}
 use Rattle.model.specs.Conversion.{ConvertPromise}
 use Rattle.model.specs.Fewest.{FewestPromise}
@@ -49,15 +36,15 @@ pub record FormatCrossed (e n s : ℕ) (area area' : List ℕ) (number : ℕ) : 
 
 -- the record's words after a recovery
 unfoldable pub words_after : RecoverAnswer → List ℕ → Record → List ℕ
-words_after RecoverAnswer.Recovered words r = sets words 0 (words_of r)
-words_after (RecoverAnswer.Refused c) words r = words
+words_after (Ok u) words r = sets words 0 (words_of r)
+words_after (Err c) words r = words
 
 pub record Recovers (n s : ℕ) (order area cells cells' words words' : List ℕ) (number : ℕ) : Type 0 where
   pub recovery : Recovery
   pub promised : RecoverPromise (image_layout n s area) n s order area cells cells' recovery
   pub numbered : number ≡ (recover_said recovery.answer).refused
   pub says : words' ≡ words_after recovery.answer words recovery.rec
-  pub long : recovery.answer ≡ RecoverAnswer.Recovered → length recovery.rec.counts ≡ 32
+  pub long : recovery.answer ≡ (Ok tt) → length recovery.rec.counts ≡ 32
 
 -- Where the record has no room, 4, and all stays.
 pub record TooShort (cells cells' words words' : List ℕ) (number : ℕ) : Type 0 where
@@ -118,8 +105,8 @@ pub record ConvertCrossed (n s : ℕ) (source target target' : List ℕ) (number
 -- ---- write, delete and clean
 
 unfoldable pub stores_after : StartAnswer → ℕ → ℕ
-stores_after (StartAnswer.Started n) old = n
-stores_after (StartAnswer.Refused c) old = old
+stores_after (Ok n) old = n
+stores_after (Err c) old = old
 
 -- What is handed back of a start.
 pub record Handed (ok : Bool) (start : Start) (words words' : List ℕ) (stores stores' number : ℕ) : Type 0 where
@@ -136,14 +123,14 @@ pub record StartCrossed (t : Terms) (o : Operation) (words words' area cells wor
 -- ---- step
 
 unfoldable pub left_told : StepAnswer → ℕ → ℕ
-left_told (StepAnswer.Left n) old = n
-left_told (StepAnswer.Done v) old = 0
-left_told (StepAnswer.Refused c) old = old
+left_told (Ok (Progress.Left n)) old = n
+left_told (Ok (Progress.Done v)) old = 0
+left_told (Err c) old = old
 
 unfoldable pub told_after : StepAnswer → ℕ → ℕ
-told_after (StepAnswer.Left n) old = 0
-told_after (StepAnswer.Done v) old = v.0
-told_after (StepAnswer.Refused c) old = old
+told_after (Ok (Progress.Left n)) old = 0
+told_after (Ok (Progress.Done v)) old = v.0
+told_after (Err c) old = old
 
 pub record StepCrossed (words words' area area' cells cells' work : List ℕ) (left left' version version' number : ℕ) : Type 0 where
   pub stepped : Stepped
@@ -167,12 +154,12 @@ pub record SwitchCrossed (words words' : List ℕ) (number : ℕ) : Type 0 where
 -- ---- the next store told
 
 unfoldable pub place_told : TellAnswer → ℕ
-place_told (TellAnswer.At place byte) = place
-place_told (TellAnswer.Refused c) = 0
+place_told (Ok s) = s.place
+place_told (Err c) = 0
 
 unfoldable pub byte_told : TellAnswer → ℕ
-byte_told (TellAnswer.At place byte) = byte
-byte_told (TellAnswer.Refused c) = 0
+byte_told (Ok s) = s.byte
+byte_told (Err c) = 0
 
 -- What is told of the next store, for every input (`told_by`) and as it is promised; where it is refused place and byte are 0.
 pub record TellCrossed (words area work : List ℕ) (place byte number : ℕ) : Type 0 where
@@ -186,8 +173,8 @@ pub record TellCrossed (words area work : List ℕ) (place byte number : ℕ) : 
 -- ---- the slot with the fewest present bytes
 
 unfoldable pub slot_told : FewestAnswer → ℕ
-slot_told (FewestAnswer.Slot i) = i
-slot_told (FewestAnswer.Refused c) = 0
+slot_told (Ok i) = i
+slot_told (Err c) = 0
 
 -- The slot, or 0 where it is refused.
 pub record FewestCrossed (words : List ℕ) (slot number : ℕ) : Type 0 where

@@ -1,6 +1,6 @@
 -- What the exported functions promise, from what the calls behind them ensure: one law for each function, over the case of
 -- the answer that a `match` found.
-use Rattle.std.specs.Prelude.{ℕ, ◌+◌, ◌*◌, ◌≤◌, ◌<◌, ◌≡◌, refl, Bool, true, false, not, List, length}
+use Rattle.std.specs.Prelude.{ℕ, ◌+◌, ◌*◌, ◌≤◌, ◌<◌, ◌≡◌, refl, Bool, true, false, not, List, length, Ok, Err}
 use Rattle.std.proofs.Common.{sym, ◌∙◌, subst, mul-le-mul, arith, eq-eqb}
 use Rattle.std.proofs.Math.Path.{ap, subst⁻¹}
 use Rattle.std.proofs.lemmas.List.Edits.{sets}
@@ -15,16 +15,7 @@ use Rattle.record.specs.RangeLaws.{Lent, lent, blank-out}
 use Rattle.record.specs.declared.Refusal.{Refusal}
 use Rattle.record.specs.declared.Refusal.TheVariants.{BadRecord}
 use Rattle.record.specs.declared.Record.{Record}
-use Rattle.record.specs.declared.FormatAnswer.{FormatAnswer}
-use Rattle.record.specs.declared.ConvertAnswer.{ConvertAnswer}
-use Rattle.record.specs.declared.Recovery.{Recovery}
-use Rattle.record.specs.declared.RecoverAnswer.{RecoverAnswer}
-use Rattle.record.specs.declared.ReadAnswer.{ReadAnswer}
-use Rattle.record.specs.declared.Start.{Start}
-use Rattle.record.specs.declared.StartAnswer.{StartAnswer}
-use Rattle.record.specs.declared.Stepped.{Stepped}
-use Rattle.record.specs.declared.StepAnswer.{StepAnswer}
-use Rattle.record.specs.declared.FewestAnswer.{FewestAnswer}
+use Rattle.record.specs.Answered.{FormatAnswer, ConvertAnswer, Recovery, RecoverAnswer, ReadAnswer, Start, StartAnswer, Stepped, StepAnswer, FewestAnswer}
 use Rattle.laws.specs.Members.{clash}
 use Rattle.model.specs.Recovery.{image_layout}
 use Rattle.model.specs.Fewest.{fewest_slot}
@@ -38,18 +29,16 @@ use Rattle.telling.specs.Told as Told
 use Rattle.stepping.specs.Tested.{StepTested}
 use Rattle.index.specs.Search.{search_for}
 use Rattle.index.specs.declared.Found.{Found}
-use Rattle.recovery.specs.Lookups.{lookup_at, looked_up, told_by, part_by}
+use Rattle.recovery.specs.Lookups.{lookup_at, looked_up, told_by, part_by, Lookup}
 use Rattle.recovery.proofs.LookupLaws.{looked-unfit, looked-fit, read-promise, value-promise, looked-outside}
-use Rattle.recovery.specs.declared.Lookup.{Lookup}
 use Rattle.words.specs.Words.{record_words, words_of, word, counts_in, record_in, is_record, decoded}
 use Rattle.words.proofs.WordLaws.{record-long, counts-long, decoded-record, decoded-none, too_short, none-unfit, encode-decode, fits-record, fits-decoded}
 use Rattle.words.specs.declared.Decoded.{Decoded}
 use Rattle.kurdavel.specs.Crossing.{FormatCrossed, RecoverCrossed, words_after, ReadCrossed, ValueCrossed, Handed, stores_after, StartCrossed, kept_words, StepCrossed, left_told, told_after, slot_told, FewestCrossed, ScanCrossed, ScanValueCrossed, ConvertCrossed}
 use Rattle.model.specs.Scanned.{ScanValue}
 use Rattle.model.specs.Conversion.{ConvertPromise}
-use Rattle.scanning.specs.Seeking.{sought, answer_of, part_for}
+use Rattle.scanning.specs.Seeking.{sought, answer_of, part_for, Sought}
 use Rattle.scanning.specs.SeekingLaws.{scan-promise, scan-value}
-use Rattle.scanning.specs.declared.Sought.{Sought}
 
 -- words that decode to a record are enough of them
 pub ok-long : (words : List ℕ) {d : Decoded} → d ≡ decoded words → d.ok ≡ true → record_words ≤ length words
@@ -108,7 +97,7 @@ pub format-crossed : {e n s : ℕ} {area area' : List ℕ} {a b : FormatAnswer} 
 format-crossed {a = a} p q m = record { answer = a; promised = p; numbered = m ∙ ap (λ (x : FormatAnswer). (format_said x).refused) (sym q) }
 
 -- a refusal is no acceptance
-pub never-recovered : {A : Type 0} {c : Refusal} → RecoverAnswer.Refused c ≡ RecoverAnswer.Recovered → A
+pub never-recovered : {A : Type 0} {c : Refusal} → ◌≡◌ {A = RecoverAnswer} (Err c) (Ok tt) → A
 never-recovered e = let z : ◌≡◌ {A = ℕ} 0 1 = cc in absurd (omega arith)
 
 pub recover-short : {n s : ℕ} {order area cells words : List ℕ} → length words < record_words
@@ -117,7 +106,7 @@ recover-short h = record { short = λ _. record { numbered = refl; index_same = 
 
 pub recover-crossed : {n s : ℕ} {order area cells cells' words words' : List ℕ} {x : Recovery} {b : RecoverAnswer} {number : ℕ}
     → record_words ≤ length words → RecoverPromise (image_layout n s area) n s order area cells cells' x → x.answer ≡ b
-    → number ≡ (recover_said b).refused → words' ≡ words_after b words x.rec → (b ≡ RecoverAnswer.Recovered → length x.rec.counts ≡ 32)
+    → number ≡ (recover_said b).refused → words' ≡ words_after b words x.rec → (b ≡ (Ok tt) → length x.rec.counts ≡ 32)
     → RecoverCrossed n s order area cells cells' words words' number
 recover-crossed {words = words} {x = x} h p e m w l =
     record {
@@ -140,12 +129,12 @@ looked-crossed words area cells t k f l = l ∙ ap (λ (a : Decoded). looked_up 
 -- a record that does not fit what is lent is bad; with one that fits, a key out of reach is not looked for, and another is looked up where
 -- the search has ended
 pub looked-lost : (words area cells : List ℕ) (t : Tables) (k : Key) {d : Decoded} → d ≡ decoded words
-    → fits_lent d.rec.edition d.rec (length area) (length cells) ≡ false → Lookup.Bad ≡ looked_up (decoded words).rec.edition (decoded words).rec area cells t k
+    → fits_lent d.rec.edition d.rec (length area) (length cells) ≡ false → Err Refusal.BadRecord ≡ looked_up (decoded words).rec.edition (decoded words).rec area cells t k
 looked-lost words area cells t k {d} f unfit = looked-crossed words area cells t k f (sym (looked-unfit d.rec.edition d.rec area cells t k unfit))
 
 pub looked-away : (words area cells : List ℕ) (t : Tables) (k : Key) {d : Decoded} → d ≡ decoded words
     → fits_lent d.rec.edition d.rec (length area) (length cells) ≡ true → holds_table t k.table ≡ false
-    → Lookup.Outside ≡ looked_up (decoded words).rec.edition (decoded words).rec area cells t k
+    → Err Refusal.OutsideTables ≡ looked_up (decoded words).rec.edition (decoded words).rec area cells t k
 looked-away words area cells t k {d} f fit out = looked-crossed words area cells t k f (sym (looked-outside d.rec.edition d.rec area cells t k fit out))
 
 pub looked-found : (words area cells : List ℕ) (t : Tables) (k : Key) {x : Lookup} {found : Found}
@@ -179,7 +168,7 @@ read-crossed {words} {area} {cells} {t} {k} {x = x} {a = a} l its e m v w =
 
 -- a record that an object was looked up with fits what is lent, which is at most the largest area
 pub found-small : (r : Record) (area cells : List ℕ) (t : Tables) (k : Key) {p kind n : ℕ} {v : Version}
-    → looked_up r.edition r area cells t k ≡ Lookup.Object p v kind n → length area ≤ 65536
+    → looked_up r.edition r area cells t k ≡ Ok (record { place = p; version = v; kind = kind; length = n }) → length area ≤ 65536
 found-small r area cells t k e = go (fits_lent r.edition r (length area) (length cells)) refl
   where
     go : (x : Bool) → fits_lent r.edition r (length area) (length cells) ≡ x → length area ≤ 65536
@@ -344,7 +333,7 @@ module _ (words : List ℕ) {t : Bool} (tested : t ≡ in_range (decoded words).
   unfolding slot_told
   fewest-bad e =
       record {
-        fewest = record { answer = FewestAnswer.Refused BadRecord; rec = (decoded words).rec };
+        fewest = record { answer = Err BadRecord; rec = (decoded words).rec };
         promised = refused-promise (decoded words).rec.edition (decoded words).rec (range-out words tested e);
         numbered = refl;
         slot-told = refl;
@@ -354,7 +343,7 @@ module _ (words : List ℕ) {t : Bool} (tested : t ≡ in_range (decoded words).
   unfolding slot_told
   fewest-told passed {slot} e =
       record {
-        fewest = record { answer = FewestAnswer.Slot slot; rec = (decoded words).rec };
+        fewest = record { answer = Ok slot; rec = (decoded words).rec };
         promised =
             told-promise (decoded words).rec.edition (decoded words).rec slot (range-in words tested passed)
             (e ∙ ap (λ (d : Decoded). fewest_slot d.rec) (sym (range-said words tested passed)));

@@ -1,12 +1,12 @@
 -- What is told of the next store and what the step that follows does, for every input of the two exported calls: the same words, area and
 -- work buffer, and any index.
-use Rattle.std.specs.Prelude.{ℕ, ◌≡◌, refl, List, ◌⊎◌, eqb, set}
+use Rattle.std.specs.Prelude.{ℕ, ◌≡◌, refl, List, ◌⊎◌, eqb, set, Ok, Err}
 use Rattle.std.proofs.Common.{sym, ap, ◌∙◌, inl, inr, eq-eqb}
 use Rattle.record.specs.Answers.{tell_said}
 use Rattle.record.specs.Refusals.{number_of_refusal}
 use Rattle.record.specs.declared.Refusal.{Refusal}
 use Rattle.record.specs.declared.Refusal.TheVariants.{BadRecord}
-use Rattle.record.specs.declared.TellAnswer.{TellAnswer}
+use Rattle.record.specs.Answered.{TellAnswer}
 use Rattle.model.specs.Promises.{StepRefused}
 use Rattle.laws.specs.CauseLaws.{refusal-number}
 use Rattle.laws.specs.Members.{clash}
@@ -31,9 +31,9 @@ next-store-made {words} {words'} {area} {area'} {cells} {cells'} {work} {place =
     go : (a : TellAnswer) → (tell_said a).refused ≡ 0 → place ≡ place_told a → byte ≡ byte_told a
         → Follows (decoded words).rec area area' cells cells' x.stepped a
         → (area' ≡ set area place byte) ⊎ OtherIndex (decoded words).rec area area' cells cells' x.stepped
-    go (TellAnswer.At p b) z l v (inl e) = inl (e ∙ ap (λ (q : ℕ). set area q b) (sym l) ∙ ap (set area place) (sym v))
-    go (TellAnswer.At p b) z l v (inr o) = inr o
-    go (TellAnswer.Refused c) z l v f = absurd (some_number c z)
+    go (Ok s) z l v (inl e) = inl (e ∙ ap (λ (q : ℕ). set area q s.byte) (sym l) ∙ ap (set area place) (sym v))
+    go (Ok s) z l v (inr o) = inr o
+    go (Err c) z l v f = absurd (some_number c z)
 
 -- Where none is told the step is refused too, and changes nothing.
 pub no-store-made : {words words' area area' cells cells' work : List ℕ} {left left' version version' place byte told number : ℕ}
@@ -47,6 +47,6 @@ no-store-made {words} {words'} {area} {area'} {cells} {cells'} {work} t some x =
   where
     go : (a : TellAnswer) → ((tell_said a).refused ≡ 0 → ⊥) → Follows (decoded words).rec area area' cells cells' x.stepped a
         → (c : Refusal) × StepRefused (decoded words).rec area area' cells cells' x.stepped c
-    go (TellAnswer.At p b) z f = absurd (z refl)
-    go (TellAnswer.Refused c) z (inl r) = (c, r)
-    go (TellAnswer.Refused c) z (inr o) = (BadRecord, o.refused)
+    go (Ok s) z f = absurd (z refl)
+    go (Err c) z (inl r) = (c, r)
+    go (Err c) z (inr o) = (BadRecord, o.refused)

@@ -1,13 +1,12 @@
 -- 02, R-7: what the exported function promises that names two slots to join, as the other exported functions do.
-use Rattle.std.specs.Prelude.{ℕ, ◌≡◌, false, not, true, List, length}
+use Rattle.std.specs.Prelude.{ℕ, ◌≡◌, false, not, true, List, length, Err}
 use Rattle.std.proofs.Common.{sym, ap, ◌∙◌}
 use Rattle.std.proofs.Math.Path.{subst⁻¹}
 use Rattle.record.specs.Answers.{blank}
 use Rattle.record.specs.Pairs.{join_said}
 use Rattle.record.specs.Range.{fits_lent}
 use Rattle.record.specs.RangeLaws.{blank-unfit}
-use Rattle.record.specs.declared.Joined.{Joined}
-use Rattle.record.specs.declared.JoinAnswer.{JoinAnswer}
+use Rattle.record.specs.Answered.{Joined, JoinAnswer}
 use Rattle.record.specs.declared.Record.{Record}
 use Rattle.record.specs.declared.Refusal.TheVariants.{BadRecord}
 use Rattle.model.specs.Joining.{JoinPromise}
@@ -43,7 +42,7 @@ join-none {words = words} f x =
     let says : (decoded words).rec ≡ blank = ap (λ (d : Decoded). d.rec) (decoded-none words f) in
     let bad : (a i : ℕ) → not (fits_lent (decoded words).rec.edition (decoded words).rec a i) ≡ true =
     λ a i. subst⁻¹ (λ (r : Record). not (fits_lent r.edition r a i) ≡ true) says (rw (blank-unfit _ a i)) in
-    let e : x.joined.answer ≡ JoinAnswer.Refused BadRecord = x.promised.early BadRecord (cause-first _ _ (bad _ _)) in (
+    let e : x.joined.answer ≡ Err BadRecord = x.promised.early BadRecord (cause-first _ _ (bad _ _)) in (
       x.numbered ∙ ap (λ (a : JoinAnswer). (join_said a).refused) e,
       x.first-told ∙ ap (λ (a : JoinAnswer). (join_said a).first) e,
       x.second-told ∙ ap (λ (a : JoinAnswer). (join_said a).second) e,

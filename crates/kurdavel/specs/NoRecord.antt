@@ -1,7 +1,7 @@
 -- Words that are no record, as the exported calls' contracts have it: every call answers 4, and nothing that is lent changes,
 -- but that a value's place and length, and a store's place and byte, are told as 0. Format takes no record, and recovery takes words only to write them: there
 -- only too few of them are refused.
-use Rattle.std.specs.Prelude.{ℕ, ◌<◌, ◌≡◌, Bool, true, false, not, List, length}
+use Rattle.std.specs.Prelude.{ℕ, ◌<◌, ◌≡◌, Bool, true, false, not, List, length, Err}
 use Rattle.std.proofs.Common.{ap, ◌∙◌, arith}
 use Rattle.std.proofs.Math.Path.{subst⁻¹}
 use Rattle.std.proofs.Math.Option.{Option, some}
@@ -11,11 +11,7 @@ use Rattle.record.specs.Range.{fits_lent}
 use Rattle.record.specs.RangeLaws.{blank-unfit}
 use Rattle.record.specs.declared.Refusal.{Refusal}
 use Rattle.record.specs.declared.Refusal.TheVariants.{BadRecord}
-use Rattle.record.specs.declared.ReadAnswer.{ReadAnswer}
-use Rattle.record.specs.declared.StartAnswer.{StartAnswer}
-use Rattle.record.specs.declared.Stepped.{Stepped}
-use Rattle.record.specs.declared.StepAnswer.{StepAnswer}
-use Rattle.record.specs.declared.TellAnswer.{TellAnswer}
+use Rattle.record.specs.Answered.{ReadAnswer, StartAnswer, Stepped, StepAnswer, TellAnswer}
 use Rattle.record.specs.declared.Record.{Record}
 use Rattle.model.specs.Operations.{Operation}
 use Rattle.record.specs.declared.Tables.{Tables}
@@ -52,7 +48,7 @@ recover-too-few h x = let t = x.short h in (t.numbered, t.index_same, t.words_sa
 pub read_none : {words area cells : List ℕ} {t : Tables} {k : Key} {version kind number : ℕ} → is_record words ≡ false
     → ReadCrossed words area cells t k version kind number → (number ≡ 4) × (version ≡ 0) × (kind ≡ 0)
 read_none {words = words} f x =
-    let e : x.reading.answer ≡ ReadAnswer.Refused BadRecord = x.promised.early BadRecord (cause-first _ _ (unfit words f _ _)) in (
+    let e : x.reading.answer ≡ Err BadRecord = x.promised.early BadRecord (cause-first _ _ (unfit words f _ _)) in (
       x.numbered ∙ ap (λ (a : ReadAnswer). (read_said a).refused) e,
       x.version-told ∙ ap (λ (a : ReadAnswer). (read_said a).version) e,
       x.kind-told ∙ ap (λ (a : ReadAnswer). (read_said a).kind) e,
@@ -61,7 +57,7 @@ read_none {words = words} f x =
 pub value_none : {words area cells : List ℕ} {t : Tables} {k : Key} {place bytes number : ℕ} → is_record words ≡ false
     → ValueCrossed words area cells t k place bytes number → (number ≡ 4) × (place ≡ 0) × (bytes ≡ 0)
 value_none {words = words} f x =
-    let e : x.reading.answer ≡ ReadAnswer.Refused BadRecord = x.promised.early BadRecord (cause-first _ _ (unfit words f _ _)) in
+    let e : x.reading.answer ≡ Err BadRecord = x.promised.early BadRecord (cause-first _ _ (unfit words f _ _)) in
     let four = x.numbered ∙ ap (λ (a : ReadAnswer). (read_said a).refused) e in
     let empty = x.nowhere (λ zero. omega arith) in
     (four, empty.0, empty.1)
@@ -72,7 +68,7 @@ pub start_none : {t : Terms} {o : Operation} {words words' area cells work work'
 unfolding begun stores_after
 start_none {t} {o} {words} {words'} {stores = stores} f x =
     let b = x.promised.early BadRecord (early-bad (decoded words).rec.edition (decoded words).rec _ t o (unfit words f _ _)) in
-    let e : x.start.answer ≡ StartAnswer.Refused BadRecord = ap (λ (y : Begun). y.start.answer) b in (
+    let e : x.start.answer ≡ Err BadRecord = ap (λ (y : Begun). y.start.answer) b in (
       x.handed.numbered ∙ ap (λ (a : StartAnswer). (start_said a).refused) e,
       kept-none words words' x.start.rec f x.handed.says,
       ap (λ (y : Begun). y.work) b,
@@ -85,7 +81,7 @@ pub step-none : {words words' area area' cells cells' work : List ℕ} {left lef
 unfolding left_told told_after
 step-none {words = words} {words' = words'} {left = left} {version = version} f x =
     let t = x.promised.refused BadRecord (cause-first _ _ (unfit words f _ _)) in
-    let e : x.stepped.answer ≡ StepAnswer.Refused BadRecord = ap (λ (y : Stepped). y.answer) t.answers in (
+    let e : x.stepped.answer ≡ Err BadRecord = ap (λ (y : Stepped). y.answer) t.answers in (
       x.numbered ∙ ap (λ (a : StepAnswer). (step_said a).refused) e,
       kept-none words words' x.stepped.rec f x.says,
       t.area_same,
@@ -107,7 +103,7 @@ pub tell_none : {words area work : List ℕ} {place byte number : ℕ} → is_re
     → (number ≡ 4) × (place ≡ 0) × (byte ≡ 0)
 unfolding place_told byte_told
 tell_none {words = words} f x =
-    let e : x.foretold.answer ≡ TellAnswer.Refused BadRecord = x.promised.refused BadRecord (cause-first _ _ (unfit words f _ _)) in (
+    let e : x.foretold.answer ≡ Err BadRecord = x.promised.refused BadRecord (cause-first _ _ (unfit words f _ _)) in (
       x.numbered ∙ ap (λ (a : TellAnswer). (tell_said a).refused) e,
       x.place-told ∙ ap place_told e,
       x.byte-told ∙ ap byte_told e,

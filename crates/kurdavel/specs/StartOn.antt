@@ -1,6 +1,6 @@
 -- The start of a write, made on the words of the record: what it promises, at each return of its code. No test of a write and nothing that it
 -- lays down looks at the present bytes, so that the record without them gives the same.
-use Rattle.std.specs.Prelude.{ℕ, ◌<◌, ◌≡◌, Bool, true, false, not, List, length}
+use Rattle.std.specs.Prelude.{ℕ, ◌<◌, ◌≡◌, Bool, true, false, not, List, length, Ok, Err}
 use Rattle.std.proofs.Math.Path.{refl, ap}
 use Rattle.std.proofs.Common.{sym, ◌∙◌}
 use Rattle.std.proofs.Math.Seq.{sets}
@@ -18,14 +18,12 @@ use Rattle.record.specs.declared.Pending.{Pending}
 use Rattle.record.specs.declared.Record.{Record}
 use Rattle.record.specs.declared.Refusal.{Refusal}
 use Rattle.record.specs.declared.Refusal.TheVariants.{BadRecord}
-use Rattle.record.specs.declared.Start.{Start}
-use Rattle.record.specs.declared.StartAnswer.{StartAnswer}
+use Rattle.record.specs.Answered.{Start, StartAnswer, Check}
 use Rattle.model.specs.Causes.{first_cause}
 use Rattle.model.specs.Operations.{write, laid_append, laid_head, laid_entry, fits_head, plan_of}
 use Rattle.model.specs.Refused.{Terms, write_causes}
 use Rattle.model.specs.Promises.{Begun, lent_lengths, StartPromise}
 use Rattle.laws.specs.CauseLaws.{cause-skip}
-use Rattle.starting.specs.declared.Check.{Check}
 use Rattle.starting.specs.Checks.{checked}
 use Rattle.starting.specs.Answer.{started_with, refused_start}
 use Rattle.writing.specs.Tests.{presence_for, facts_for}
@@ -64,12 +62,12 @@ module _ (q : Terms) (words area cells work : List ℕ) (k : Key) (value : List 
   tests r = checked (first_cause (write_causes r.edition r (lent_lengths area cells work) q k (facts_for area cells k) (length value)))
 
   module _ (half : word words 7 < 4294967296) (stores : ℕ) {t : Bool} (tested : t ≡ fits_lent says.edition says (length area) (length cells)) where
-    refused-crossed : (c : Refusal) {number : ℕ} → Check.Refused c ≡ tests says → number ≡ (start_said (StartAnswer.Refused c)).refused
+    refused-crossed : (c : Refusal) {number : ℕ} → Err c ≡ tests says → number ≡ (start_said (Err c)).refused
         → StartCrossed q (write k value) words words area cells work work stores stores number
     unfolding stores_after
     refused-crossed c e m =
         start-crossed refl (write-refused _ q says area cells work k value c e (refused_start says c) refl)
-        (handed {b = StartAnswer.Refused c} (same-words words half, said-long words) refl m refl)
+        (handed {b = Err c} (same-words words half, said-long words) refl m refl)
 
     pub write-bad : not t ≡ true → StartCrossed q (write k value) words words area cells work work stores stores 4
     write-bad e =
@@ -94,11 +92,11 @@ module _ (q : Terms) (words area cells work : List ℕ) (k : Key) (value : List 
           ∙ ap checked
           (cause-skip _ _ (ap not (fits-bare says.edition says (length area) (length cells) fit)) ∙ sym (cause-skip _ _ (ap not fit)))
 
-      pub write-turned : (c : Refusal) {number : ℕ} → Check.Refused c ≡ tests f → number ≡ (start_said (StartAnswer.Refused c)).refused
+      pub write-turned : (c : Refusal) {number : ℕ} → Err c ≡ tests f → number ≡ (start_said (Err c)).refused
           → StartCrossed q (write k value) words words area cells work work stores stores number
       write-turned c e m = refused-crossed c (e ∙ same_tests) m
 
-      pub write-begun : {words' work' : List ℕ} {p : Pending} {left : ℕ} → Check.Passed ≡ tests f → (kind : ℕ) → kind ≡ or_zero (object_kind f.edition (length value))
+      pub write-begun : {words' work' : List ℕ} {p : Pending} {left : ℕ} → (Ok tt) ≡ tests f → (kind : ℕ) → kind ≡ or_zero (object_kind f.edition (length value))
           → record { start = started_with f p left; work = work' } ≡ laid_begun f (laid_entry f.edition f (entry_of f.edition kind k f.next value)) work
           → words' ≡ sets words 12 (pending_words p)
           → StartCrossed q (write k value) words words' area cells work work' stores left 0
@@ -113,7 +111,7 @@ module _ (q : Terms) (words area cells work : List ℕ) (k : Key) (value : List 
           start-crossed refl
           (write-laid _ q says area cells work k value (e ∙ same_tests) work' (started_with says p left) kind
           (known ∙ ap (λ (r : Record). or_zero (object_kind r.edition (length value))) is) begun)
-          (handed {b = StartAnswer.Started left} (
+          (handed {b = Ok left} (
             kept_on words words' (with_pending says p) (ap (λ (d : Decoded). d.ok) said)
                 (w ∙ pending-alone words are half p ∙ ap (λ (d : Decoded). sets words 0 (words_of (with_pending d.rec p))) (sym said)),
             said-long words,

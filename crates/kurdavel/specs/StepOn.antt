@@ -1,5 +1,5 @@
 -- A step that leaves stores to be done, made on the words of the record: what it promises, at each return of its code.
-use Rattle.std.specs.Prelude.{ℕ, ◌*◌, ◌-◌, ◌≤◌, ◌<◌, ◌≡◌, Bool, true, false, not, length, take, set}
+use Rattle.std.specs.Prelude.{ℕ, ◌*◌, ◌-◌, ◌≤◌, ◌<◌, ◌≡◌, Bool, true, false, not, length, take, set, Ok, Err}
 use Rattle.std.proofs.Math.Path.{refl, sym, ap, subst⁻¹}
 use Rattle.std.proofs.Common.{◌∙◌, subst, arith, length-set}
 use mathlib.Core.List.{List, [], ◌∷◌, ◌++◌}
@@ -15,9 +15,8 @@ use Rattle.record.specs.declared.Pending.TheVariants.{Idle, Append, NewHead, Cle
 use Rattle.record.specs.declared.Record.{Record}
 use Rattle.record.specs.declared.Refusal.{Refusal}
 use Rattle.record.specs.declared.Refusal.TheVariants.{BadRecord}
-use Rattle.record.specs.declared.Stepped.{Stepped}
-use Rattle.record.specs.declared.StepAnswer.{StepAnswer}
-use Rattle.record.specs.declared.TellAnswer.{TellAnswer}
+use Rattle.record.specs.Answered.{Stepped, StepAnswer, TellAnswer}
+use Rattle.record.specs.declared.Progress.{Progress}
 use Rattle.model.specs.Promises.{StepPromise}
 use Rattle.laws.specs.OperationsKept.{edition-laws}
 use Rattle.telling.specs.Agree.{agrees_with}
@@ -108,12 +107,12 @@ module _ (words area work : List ℕ) where
   found cells = found_by says.edition says area cells work
 
   -- a record that does not fit is refused with 4
-  unfit-found : (cells : ℕ) → fits_lent says.edition says (length area) cells ≡ false → TellAnswer.Refused BadRecord ≡ found cells
+  unfit-found : (cells : ℕ) → fits_lent says.edition says (length area) cells ≡ false → Err BadRecord ≡ found cells
   unfit-found cells e = found-bad says.edition says area cells work {t = false} (sym e) refl
 
   -- what the code finds: t for the test on the words, f for what they say but the present bytes
   module _ (cells : ℕ) {t : Bool} (tested : t ≡ fits_lent says.edition says (length area) cells) where
-    pub bad-found : not t ≡ true → found cells ≡ TellAnswer.Refused BadRecord
+    pub bad-found : not t ≡ true → found cells ≡ Err BadRecord
     bad-found e = sym (found-bad says.edition says area cells work tested e)
 
     module _ (passed : not t ≡ false) where
@@ -137,21 +136,21 @@ module _ (words area work : List ℕ) where
       front_long = fits-words words (length area) cells (sym tested ∙ not-false t passed)
 
   -- a record for which a store is found fits, and the words are a record's
-  found-fit : (cells p b : ℕ) → found cells ≡ TellAnswer.At p b → fits_lent says.edition says (length area) cells ≡ true
+  found-fit : (cells p b : ℕ) → found cells ≡ Ok (record { place = p; byte = b }) → fits_lent says.edition says (length area) cells ≡ true
   found-fit cells p b e = go (fits_lent says.edition says (length area) cells) refl
     where
       go : (t : Bool) → fits_lent says.edition says (length area) cells ≡ t → fits_lent says.edition says (length area) cells ≡ true
       go true f = f
       go false f =
-          let w : TellAnswer.Refused BadRecord ≡ TellAnswer.At p b = unfit-found cells f ∙ e in
+          let w : ◌≡◌ {A = TellAnswer} (Err BadRecord) (Ok (record { place = p; byte = b })) = unfit-found cells f ∙ e in
           let z : ◌≡◌ {A = ℕ} 0 1 = cc in
           absurd (omega arith)
 
-  found-record : (cells p b : ℕ) → found cells ≡ TellAnswer.At p b → is_record words ≡ true
+  found-record : (cells p b : ℕ) → found cells ≡ Ok (record { place = p; byte = b }) → is_record words ≡ true
   found-record cells p b e = fits-record _ words (length area) cells (found-fit cells p b e)
 
   -- and it lies in the area
-  pub on-inside : (cells p b : ℕ) → found cells ≡ TellAnswer.At p b → p < length area
+  pub on-inside : (cells p b : ℕ) → found cells ≡ Ok (record { place = p; byte = b }) → p < length area
   on-inside cells p b e =
       let fit = found-fit cells p b e in
       let own : cells ≡ says.cells = (lent says.edition says (length area) cells fit).index-own in
@@ -160,13 +159,13 @@ module _ (words area work : List ℕ) where
   -- ---- the step
 
   module _ (half : word words 7 < 4294967296) (cells : List ℕ) (left version : ℕ) where
-    pub on-refused : (c : Refusal) {number : ℕ} → found (length cells) ≡ TellAnswer.Refused c → number ≡ (tell_said (TellAnswer.Refused c)).refused
+    pub on-refused : (c : Refusal) {number : ℕ} → found (length cells) ≡ Err c → number ≡ (tell_said (Err c)).refused
         → StepCrossed words words area area cells cells work left left version version number
     unfolding left_told told_after
     on-refused c e m =
-        step-crossed {b = StepAnswer.Refused c} refl (found-refused _ says area cells work c e refl) (same-words words half, said-long words) refl m refl refl
+        step-crossed {b = Err c} refl (found-refused _ says area cells work c e refl) (same-words words half, said-long words) refl m refl refl
 
-    pub on-stored : (p b : ℕ) {words' : List ℕ} → found (length cells) ≡ TellAnswer.At p b → 1 < word words 16
+    pub on-stored : (p b : ℕ) {words' : List ℕ} → found (length cells) ≡ Ok (record { place = p; byte = b }) → 1 < word words 16
         → words' ≡ set words 16 (word words 16 - 1)
         → StepCrossed words words' area (set area p b) cells cells work left (word words 16 - 1) version 0 0
     unfolding left_told told_after
@@ -180,7 +179,7 @@ module _ (words area work : List ℕ) where
         let after : Record = with_pending says (one_less says.pending) in
         let its : after ≡ with_pending (record_in words) (one_less (record_in words).pending) =
         ap (λ (d : Decoded). with_pending d.rec (one_less d.rec.pending)) is in
-        step-crossed {x = record { answer = StepAnswer.Left (word words 16 - 1); rec = after }} refl
+        step-crossed {x = record { answer = Ok (Progress.Left (word words 16 - 1)); rec = after }} refl
         (found-stored _ says area cells work p b e
         (advance-left says.edition says (set area p b) cells k-said more refl refl) refl) (
           kept_on words words' after (ap (λ (d : Decoded). d.ok) is)
@@ -193,14 +192,14 @@ module _ (words area work : List ℕ) where
 
   module _ (cells : List ℕ) (left version : ℕ) where
     -- the last step, once its store is made
-    pub on-last : (p b : ℕ) {words' cells' : List ℕ} {left' version' number : ℕ} → found (length cells) ≡ TellAnswer.At p b
+    pub on-last : (p b : ℕ) {words' cells' : List ℕ} {left' version' number : ℕ} → found (length cells) ≡ Ok (record { place = p; byte = b })
         → Finished words words' (set area p b) cells cells' left left' version version' number
         → StepCrossed words words' area (set area p b) cells cells' work left left' version version' number
     on-last p b e f =
         step-crossed refl (found-stored _ says area cells work p b e f.advances f.same_length) (f.says, f.long) refl f.numbered
         f.left-told f.version-told
 
-    pub on-ready : (p b : ℕ) → found (length cells) ≡ TellAnswer.At p b → AdvanceReady says (set area p b)
+    pub on-ready : (p b : ℕ) → found (length cells) ≡ Ok (record { place = p; byte = b }) → AdvanceReady says (set area p b)
     on-ready p b e =
         let fit = found-fit (length cells) p b e in
         let k = found-known _ says area cells work fit p b e in
@@ -217,7 +216,7 @@ module _ (words area work : List ℕ) where
         }
 
     -- stores are left
-    pub on-left : (p b : ℕ) → found (length cells) ≡ TellAnswer.At p b → 0 < word words 16
+    pub on-left : (p b : ℕ) → found (length cells) ≡ Ok (record { place = p; byte = b }) → 0 < word words 16
     on-left p b e =
         let are = found-record (length cells) p b e in
         let k : word words 16 ≡ stores_left (record_in words).pending =

@@ -1,5 +1,5 @@
 -- The switch on the words of the record as they are: what the code has found, case by case.
-use Rattle.std.specs.Prelude.{ℕ, ◌<◌, ◌≡◌, refl, Bool, false, not, List, [], ◌∷◌, set}
+use Rattle.std.specs.Prelude.{ℕ, ◌<◌, ◌≡◌, refl, Bool, false, not, List, [], ◌∷◌, set, Ok, Err}
 use Rattle.std.proofs.Common.{sym, ◌∙◌, arith}
 use Rattle.std.proofs.Math.Path.{ap}
 use Rattle.std.proofs.Math.Bool.{true}
@@ -11,7 +11,7 @@ use Rattle.record.specs.declared.Pending.{Pending}
 use Rattle.record.specs.declared.Pending.TheVariants.{Idle, Append, NewHead, Clean, Forget}
 use Rattle.record.specs.declared.Record.{Record}
 use Rattle.record.specs.declared.Refusal.TheVariants.{BadRecord, Busy}
-use Rattle.record.specs.declared.SwitchAnswer.{SwitchAnswer}
+use Rattle.record.specs.Answered.{SwitchAnswer}
 use Rattle.model.specs.Switching.{switching}
 use Rattle.switching.specs.SwitchLaws.{bad-promise, busy-promise, taken-promise}
 use Rattle.words.specs.Words.{pending_words, words_of, word, record_in, is_record, switch_number, decoded}
@@ -38,7 +38,7 @@ module _ (words : List ℕ) (half : word words 7 < 4294967296) where
     unfolding switching
     switch-bad e =
         record {
-          switching = record { answer = SwitchAnswer.Refused BadRecord; rec = (decoded words).rec };
+          switching = record { answer = Err BadRecord; rec = (decoded words).rec };
           promised = bad-promise _ _ _ (range-out words tested e) refl;
           numbered = refl;
           says = same-words words half;
@@ -59,7 +59,7 @@ module _ (words : List ℕ) (half : word words 7 < 4294967296) where
       unfolding switching
       switch-busy d =
           record {
-            switching = record { answer = SwitchAnswer.Refused Busy; rec = (decoded words).rec };
+            switching = record { answer = Err Busy; rec = (decoded words).rec };
             promised = busy-promise _ _ _ (range-in words tested passed) (λ i. d (word-idle (record_in words).pending (pending-words words are) (sym said-pending ∙ i))) refl;
             numbered = refl;
             says = same-words words half;
@@ -72,7 +72,7 @@ module _ (words : List ℕ) (half : word words 7 < 4294967296) where
         unfolding switching
         done words' w =
             record {
-              switching = record { answer = SwitchAnswer.Switched; rec = switched_on (decoded words).rec };
+              switching = record { answer = (Ok tt); rec = switched_on (decoded words).rec };
               promised = taken-promise _ _ _ (range-in words tested passed) (said-pending ∙ idle-word (record_in words).pending (pending-words words are) idle) refl;
               numbered = refl;
               says =

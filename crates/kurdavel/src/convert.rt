@@ -2,14 +2,14 @@
 // number.
 ghost use Rattle.kurdavel.specs.Crossing.{ConvertCrossed};
 
-use record::{ConvertAnswer, number};
+use record::number;
 use store::convert;
 
 pub fn kurdavel_convert(slots: u32, size: u32, source: &[u8], target: &mut [u8]) -> u32
     ensures { ConvertCrossed slots size source.now target.old target.new result }
 {
     match convert(slots, size, source, target) {
-        ConvertAnswer::Converted => 0,
-        ConvertAnswer::Refused(cause) => number(cause),
+        Ok(()) => 0,
+        Err(cause) => number(cause),
     }
 }

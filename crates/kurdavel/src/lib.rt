@@ -2,7 +2,7 @@
 // `kurdavel_c` exports under the same names.
 // The reads, the start of a write, the step, the next store told, the switch and the question for the emptiest slot go by the record's
 // words as they are; the others decode the record from them, make the call, and encode what it hands back. Nothing is required of the
-// caller's values: words that are no record are refused with 4. The answer is 0 or the refusal's number.
+// caller's values: words that are no record are refused with 4. The answer is 0 or the refusal's number, as the C interface has it.
 #![tactic(auto)]
 
 ghost use Rattle.std.specs.Prelude.{◌≤◌, ◌≡◌, true, length};
@@ -10,24 +10,20 @@ ghost use Rattle.model.specs.Operations.{write, delete, clean};
 ghost use Rattle.model.specs.Refused.{freely, reaching};
 ghost use Rattle.position.specs.Convert.{from_float, to_float, ConversionCrossed};
 ghost use Rattle.record.specs.declared.Expected.{Expected};
-ghost use Rattle.words.specs.Words.{record_words};
+ghost use Rattle.record.specs.Range.{in_range};
+ghost use Rattle.words.specs.Words.{record_words, decoded};
 ghost use Rattle.kurdavel.specs.Crossing.{FormatCrossed, RecoverCrossed, ReadCrossed, ValueCrossed, StartCrossed, kept_words, Handed};
 ghost use Rattle.kurdavel.specs.Joining.{JoinCrossed};
 
 use index::search::search;
 use position::{from_float, hand_over, to_float};
 use record::reach::holds_table;
-use record::{
-    Expected, FormatAnswer, JoinAnswer, ReadAnswer, Record, RecoverAnswer, Start, StartAnswer,
-    Tables, number,
-};
-use recovery::Lookup;
+use record::{Expected, Record, Start, Tables, number};
 use recovery::read::{look_at, told};
 use segment::layout::{edition_of_kind, head_size, object_kind};
 use segment::{Key, Version};
-use starting::Check;
 use store::{clean, delete, format, join, recover};
-use words::{WORDS, decode, encode, encode_pending, fits, front_in};
+use words::{CELLS, SIZE, WORDS, decode, encode, encode_pending, fits, front_in};
 use writing::causes::check_fitting;
 use writing::lay::lay_entry;
 
@@ -37,12 +33,24 @@ pub mod scan;
 pub mod step;
 pub mod switch;
 
+// Whether the words are those of a record in range, where no lengths are lent: those stand in for them which the record itself says.
+fn in_range(words: &[u32]) -> bool
+    ensures said { result ≡ in_range (decoded words.now).rec.edition (decoded words.now).rec }
+    ensures long { result ≡ true → record_words ≤ length words.now }
+{
+    if words.len() < WORDS {
+        return false;
+    }
+    let area = words[0] as usize * words[SIZE] as usize;
+    fits(words, area, words[CELLS] as usize)
+}
+
 pub fn kurdavel_format(slots: u32, size: u32, edition: u32, area: &mut [u8]) -> u32
     ensures { FormatCrossed edition slots size area.old area.new result }
 {
     match format(slots, size, edition, area) {
-        FormatAnswer::Formatted => 0,
-        FormatAnswer::Refused(cause) => number(cause),
+        Ok(()) => 0,
+        Err(cause) => number(cause),
     }
 }
 
@@ -64,8 +72,8 @@ pub fn kurdavel_recover(
     let found = recover(slots, size, order, area, index);
     let answer = found.answer;
     match answer {
-        RecoverAnswer::Refused(cause) => number(cause),
-        RecoverAnswer::Recovered => {
+        Err(cause) => number(cause),
+        Ok(()) => {
             let rec = found.rec;
             encode(rec, words);
             0
@@ -100,13 +108,10 @@ pub fn kurdavel_read(
     let found = search(area, index, Key { table, key });
     let answer = told(look_at(area, index, found));
     match answer {
-        ReadAnswer::Refused(cause) => number(cause),
-        ReadAnswer::Present {
-            version: found,
-            kind: told,
-        } => {
-            *version = found.0;
-            *kind = told as u32;
+        Err(cause) => number(cause),
+        Ok(present) => {
+            *version = present.version.0;
+            *kind = present.kind as u32;
             0
         }
     }
@@ -136,24 +141,17 @@ pub fn kurdavel_read_value(
     }
     let found = search(area, index, Key { table, key });
     match look_at(area, index, found) {
-        Lookup::Object {
-            place: entry,
-            version: _,
-            kind,
-            length,
-        } => {
-            let head = head_size(edition_of_kind(kind));
-            *place = (entry + head) as u32;
-            *bytes = (length - head) as u32;
+        Err(refusal) => number(refusal),
+        Ok(object) => {
+            let head = head_size(edition_of_kind(object.kind));
+            *place = (object.place + head) as u32;
+            *bytes = (object.length - head) as u32;
             0
         }
-        Lookup::Absent => 8,
-        Lookup::Outside => 22,
-        Lookup::Bad => 4,
     }
 }
 
-// The record back into its words, if they were a record's.
+// The record back into its words, if they were a record's. Flag and record stand beside each other, as `decode` gives them.
 fn keep(words: &mut [u32], ok: bool, rec: Record)
     requires { ok ≡ true → record_words ≤ length words.old }
     ensures kept { words.new ≡ kept_words ok words.old rec }
@@ -173,8 +171,8 @@ fn hand_back(words: &mut [u32], ok: bool, start: Start, stores: &mut u32) -> u32
     let answer = start.answer;
     keep(words, ok, rec);
     match answer {
-        StartAnswer::Refused(cause) => number(cause),
-        StartAnswer::Started(count) => {
+        Err(cause) => number(cause),
+        Ok(count) => {
             *stores = count;
             0
         }
@@ -211,8 +209,8 @@ fn start_write(
         key,
         value.len(),
     ) {
-        Check::Refused(cause) => number(cause),
-        Check::Passed => {
+        Err(cause) => number(cause),
+        Ok(()) => {
             let edition = front.edition;
             let laying = lay_entry(front, work, object_kind(edition, value.len()), key, value);
             let pending = laying.pending;
@@ -342,13 +340,10 @@ pub fn kurdavel_join(
     let joined = join(rec, area, index);
     let answer = joined.answer;
     match answer {
-        JoinAnswer::Refused(cause) => number(cause),
-        JoinAnswer::Pair {
-            first: lower,
-            second: upper,
-        } => {
-            *first = lower;
-            *second = upper;
+        Err(cause) => number(cause),
+        Ok(pair) => {
+            *first = pair.first;
+            *second = pair.second;
             0
         }
     }

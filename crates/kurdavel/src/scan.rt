@@ -2,7 +2,6 @@
 ghost use Rattle.kurdavel.specs.Crossing.{ScanCrossed, ScanValueCrossed};
 
 use record::{Tables, number};
-use scanning::Sought;
 use scanning::read::seek;
 use segment::Key;
 use segment::layout::{edition_of_kind, head_size};
@@ -31,15 +30,10 @@ pub fn kurdavel_scan_read(
         Tables { first, last },
         Key { table, key },
     ) {
-        Sought::Refused(cause) => number(cause),
-        Sought::Object {
-            place: _,
-            version: found,
-            kind: told,
-            length: _,
-        } => {
-            *version = found.0;
-            *kind = told as u32;
+        Err(cause) => number(cause),
+        Ok(object) => {
+            *version = object.version.0;
+            *kind = object.kind as u32;
             0
         }
     }
@@ -69,16 +63,11 @@ pub fn kurdavel_scan_read_value(
         Tables { first, last },
         Key { table, key },
     ) {
-        Sought::Refused(cause) => number(cause),
-        Sought::Object {
-            place: entry,
-            version: _,
-            kind,
-            length,
-        } => {
-            let head = head_size(edition_of_kind(kind));
-            *place = (entry + head) as u32;
-            *bytes = (length - head) as u32;
+        Err(cause) => number(cause),
+        Ok(object) => {
+            let head = head_size(edition_of_kind(object.kind));
+            *place = (object.place + head) as u32;
+            *bytes = (object.length - head) as u32;
             0
         }
     }

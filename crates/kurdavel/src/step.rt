@@ -8,15 +8,15 @@ ghost use Rattle.kurdavel.specs.Crossing.{StepCrossed, TellCrossed};
 ghost use Rattle.kurdavel.specs.StepOn.{front_fits, AdvanceReady, Finished};
 
 use crate::keep;
-use record::{StepAnswer, number};
+use record::{Progress, Refusal, number};
 use stepping::finish::advance;
-use telling::PlaceAnswer;
+use telling::NextPlace;
 use telling::tell::{byte_from, place_of};
 use words::{CELLS, LEFT, WORDS, decode, fits, front_in};
 
 // The place of the next store of a record that fits and whence its byte comes, or the cause that refuses it. The two calls below share it,
 // and nothing else calls what it calls, so that the compiler puts all of it in line. Of the work buffer it gets the length alone.
-fn found_in(words: &[u32], area: &[u8], work: usize) -> PlaceAnswer
+fn found_in(words: &[u32], area: &[u8], work: usize) -> Result<NextPlace<u32>, Refusal>
     requires record_words_in_bounds { record_words ≤ length words.now }
     requires front_fits { front_fits words.now area.now }
     ensures { PlaceTold (record_in words.now).edition (bare (record_in words.now)) area.now work result }
@@ -43,17 +43,19 @@ fn finish(
     let answer = stepped.answer;
     keep(words, decoded.ok, after);
     match answer {
-        StepAnswer::Refused(cause) => number(cause),
-        StepAnswer::Left(count) => {
-            *left = count;
-            *version = 0;
-            0
-        }
-        StepAnswer::Done(told) => {
-            *left = 0;
-            *version = told.0;
-            0
-        }
+        Err(cause) => number(cause),
+        Ok(progress) => match progress {
+            Progress::Left(count) => {
+                *left = count;
+                *version = 0;
+                0
+            }
+            Progress::Done(told) => {
+                *left = 0;
+                *version = told.0;
+                0
+            }
+        },
     }
 }
 
@@ -74,13 +76,9 @@ pub fn kurdavel_step(
         return 4;
     }
     match found_in(words, area, work.len()) {
-        PlaceAnswer::Refused(cause) => number(cause),
-        PlaceAnswer::At {
-            place,
-            from,
-            copied,
-        } => {
-            area[place as usize] = byte_from(work, from, copied);
+        Err(cause) => number(cause),
+        Ok(next) => {
+            area[next.place as usize] = byte_from(work, next.from, next.copied);
             let rest = words[LEFT] - 1;
             if rest == 0 {
                 return finish(words, area, index, left, version);
@@ -112,14 +110,10 @@ pub fn kurdavel_next_store(
         return 4;
     }
     match found_in(words, area, work.len()) {
-        PlaceAnswer::Refused(cause) => number(cause),
-        PlaceAnswer::At {
-            place: found,
-            from,
-            copied,
-        } => {
-            *at = found;
-            *byte = byte_from(work, from, copied) as u32;
+        Err(cause) => number(cause),
+        Ok(next) => {
+            *at = next.place;
+            *byte = byte_from(work, next.from, next.copied) as u32;
             0
         }
     }

@@ -1,5 +1,5 @@
 -- 02, R-12: an image that was converted recovers to the same map and the same next version, and converted back it has the same log.
-use Rattle.std.specs.Prelude.{ℕ, zero, suc, ◌+◌, ◌*◌, ◌-◌, ◌^◌, ◌≤◌, ◌<◌, max, ◌≡◌, refl, Bool, true, false, not, ltb, length}
+use Rattle.std.specs.Prelude.{ℕ, zero, suc, ◌+◌, ◌*◌, ◌-◌, ◌^◌, ◌≤◌, ◌<◌, max, ◌≡◌, refl, Bool, true, false, not, ltb, length, Ok}
 use Rattle.std.proofs.Math.Path.{sym, ap, ap₂}
 use Rattle.std.proofs.Common.{◌∙◌, subst, arith, lit<, ltb-true, ltb-false, lt-ltb, le-ltb, eqb-true}
 use mathlib.Core.List.Memᴰ
@@ -21,7 +21,7 @@ use Rattle.segment.specs.declared.Key.{Key}
 use Rattle.slot_map.specs.Bit.{named}
 use Rattle.record.specs.Range.{slots_good, size_good, cells_good}
 use Rattle.record.specs.RangeLaws.{between-low}
-use Rattle.record.specs.declared.ConvertAnswer.{ConvertAnswer}
+use Rattle.record.specs.Answered.{ConvertAnswer}
 use Rattle.record.specs.declared.Refusal.{Refusal}
 use Rattle.record.specs.declared.Refusal.TheVariants.{Geometry}
 use Rattle.record.specs.declared.Record.{Record}
@@ -463,12 +463,12 @@ module _ (L : Layout) (n s m : ℕ) (source : List ℕ) (bytes : Bytes source) (
 
 -- ---- in terms of the promise
 
-answer-none : (o : Option Refusal) → ConvertAnswer.Converted ≡ convert_answer o → o ≡ none
+answer-none : (o : Option Refusal) → (Ok tt) ≡ convert_answer o → o ≡ none
 unfolding convert_answer
 answer-none none e = refl
 answer-none (some c) e = let z : ◌≡◌ {A = ℕ} 0 1 = cc in absurd (omega arith)
 
-module _ (n s : ℕ) (source target target' : List ℕ) (p : ConvertPromise n s source target target' ConvertAnswer.Converted) where
+module _ (n s : ℕ) (source target target' : List ℕ) (p : ConvertPromise n s source target target' (Ok tt)) where
   pub converted-accepted : first_cause (convert_causes n s source (length target)) ≡ none
   converted-accepted = answer-none (first_cause (convert_causes n s source (length target))) p.answers
 
@@ -539,7 +539,7 @@ accepted-sound n s source k e =
 
 -- Where the conversion is accepted, the target recovers with every index with which the source does, to the same map and next version.
 pub conversion-same :
-    (L : Layout) (n s m : ℕ) (source target target' : List ℕ) → Bytes source → ConvertPromise n s source target target' ConvertAnswer.Converted →
+    (L : Layout) (n s m : ℕ) (source target target' : List ℕ) → Bytes source → ConvertPromise n s source target target' (Ok tt) →
     (r : Record) → recovered L n s m source ≡ some r → SameStore (other_layout L) n s m source target' r
 conversion-same L n s m source target target' bytes p r e =
     let f = recovered-facts L n s m source r e in
@@ -552,7 +552,7 @@ conversion-same L n s m source target target' bytes p r e =
 
 -- and every slot of its log is of the other layout
 pub conversion-slots :
-    (L : Layout) (n s m : ℕ) (source target target' : List ℕ) → Bytes source → ConvertPromise n s source target target' ConvertAnswer.Converted →
+    (L : Layout) (n s m : ℕ) (source target target' : List ℕ) → Bytes source → ConvertPromise n s source target target' (Ok tt) →
     (r : Record) → recovered L n s m source ≡ some r → (i : ℕ) → i < n → named r.map i ≡ true → (views_of target' s i).layout ≡ other_layout L
 conversion-slots L n s m source target target' bytes p r e i l q =
     let f = recovered-facts L n s m source r e in
@@ -567,8 +567,8 @@ conversion-slots L n s m source target target' bytes p r e i l q =
 -- Converted back, which is always accepted, it has the log that it had: up and down again, and down and up again.
 pub conversion-back :
     (n s : ℕ) (source target target' back back' : List ℕ) (a : ConvertAnswer) → Bytes source →
-    ConvertPromise n s source target target' ConvertAnswer.Converted → length back ≡ length target → ConvertPromise n s target' back back' a →
-    (a ≡ ConvertAnswer.Converted) × SameLog n s source back'
+    ConvertPromise n s source target target' (Ok tt) → length back ≡ length target → ConvertPromise n s target' back back' a →
+    (a ≡ (Ok tt)) × SameLog n s source back'
 unfolding convert_answer area_unless
 conversion-back n s source target target' back back' a bytes p same_length q =
     let e = converted-accepted n s source target target' p in

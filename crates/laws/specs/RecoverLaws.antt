@@ -1,5 +1,5 @@
 -- What an accepted recovery tells of an area, as one record of facts, and that these facts are all that it asks.
-use Rattle.std.specs.Prelude.{ℕ, ◌*◌, ◌-◌, ◌^◌, ◌≤◌, ◌<◌, Bool, List, [], ◌∷◌, ◌++◌, eqb, length, get_or, drop}
+use Rattle.std.specs.Prelude.{ℕ, ◌*◌, ◌-◌, ◌^◌, ◌≤◌, ◌<◌, Bool, List, [], ◌∷◌, ◌++◌, eqb, length, get_or, drop, Ok, Err}
 use Rattle.std.proofs.Math.Path.{◌≡◌, refl, sym, ap, subst}
 use Rattle.std.proofs.Common.{◌∙◌, arith}
 use Rattle.std.proofs.Math.Bool.{true, false, not}
@@ -25,8 +25,7 @@ use Rattle.record.specs.Switch.{new_layout}
 use Rattle.record.specs.declared.Refusal.{Refusal}
 use Rattle.record.specs.declared.Refusal.TheVariants.{BadOrder}
 use Rattle.record.specs.declared.Record.{Record}
-use Rattle.record.specs.declared.Recovery.{Recovery}
-use Rattle.record.specs.declared.RecoverAnswer.{RecoverAnswer}
+use Rattle.record.specs.Answered.{Recovery, RecoverAnswer}
 use Rattle.model.specs.Log.{View, Head, Placed, scanned, items_of, scan, digest_in, segment_of, views_of, head_of, log_of, end_of, is_damaged, keys_of, version_shared, highest}
 use Rattle.model.specs.Causes.{Cause, when, first_cause}
 use Rattle.model.specs.Counts.{counts_of}
@@ -236,16 +235,16 @@ module _ (L : Layout) (n s m : ℕ) (area : List ℕ) where
       (cause-passed (lent_causes n s m (length area)) (when (order_bad n order) BadOrder)
       (image_causes L v n (head_of v n) ++ key_causes v n m (head_of v n)) e)
 
-  recovery-none : (o : Option Refusal) (a r : Record) → recovery_for o a ≡ record { answer = RecoverAnswer.Recovered; rec = r } → (o ≡ none) × (a ≡ r)
+  recovery-none : (o : Option Refusal) (a r : Record) → recovery_for o a ≡ record { answer = (Ok tt); rec = r } → (o ≡ none) × (a ≡ r)
   unfolding recovery_for
   recovery-none none a r e = (refl, ap (λ (x : Recovery). x.rec) e)
   recovery-none (some c) a r e =
-      let q : RecoverAnswer.Refused c ≡ RecoverAnswer.Recovered = ap (λ (x : Recovery). x.answer) e in
+      let q : Err c ≡ (Ok tt) = ap (λ (x : Recovery). x.answer) e in
       let z : ◌≡◌ {A = ℕ} 0 1 = cc in
       absurd (omega arith)
 
   -- The call gives a record exactly if the area does, and the order names each slot once.
-  pub recovery-order : (order : List ℕ) (r : Record) → recovery L n s m order area ≡ record { answer = RecoverAnswer.Recovered; rec = r }
+  pub recovery-order : (order : List ℕ) (r : Record) → recovery L n s m order area ≡ record { answer = (Ok tt); rec = r }
       → order_bad n order ≡ false
   unfolding recovery
   recovery-order order r e =
@@ -254,7 +253,7 @@ module _ (L : Layout) (n s m : ℕ) (area : List ℕ) where
       (recovery-none (first_cause (recover_causes L n s m order area)) (record_from L n s m area) r e).0)).order-good
 
   pub recovery-recovered : (order : List ℕ) (r : Record) → image_layout n s area ≡ L
-      → recovery L n s m order area ≡ record { answer = RecoverAnswer.Recovered; rec = r } → recovered L n s m area ≡ some r
+      → recovery L n s m order area ≡ record { answer = (Ok tt); rec = r } → recovered L n s m area ≡ some r
   unfolding if_none
   recovery-recovered order r own e =
       let accepted =
@@ -262,12 +261,12 @@ module _ (L : Layout) (n s m : ℕ) (area : List ℕ) where
       own-recovered own ∙ ap (λ (o : Option Refusal). if_none o (record_from L n s m area)) accepted.0 ∙ ap some accepted.1
 
   pub recovered-recovery : (order : List ℕ) (r : Record) → order_bad n order ≡ false → recovered L n s m area ≡ some r
-      → recovery L n s m order area ≡ record { answer = RecoverAnswer.Recovered; rec = r }
+      → recovery L n s m order area ≡ record { answer = (Ok tt); rec = r }
   unfolding recovery_for
   recovered-recovery order r good e =
       let accepted = if_none_lem (first_cause (area_causes L n s m area)) (record_from L n s m area) r (recovered-own r e).1 in
       order-free order good ∙ ap (λ (o : Option Refusal). recovery_for o (record_from L n s m area)) accepted.0 ∙
-      ap (λ (x : Record). record { answer = RecoverAnswer.Recovered; rec = x }) accepted.1
+      ap (λ (x : Record). record { answer = (Ok tt); rec = x }) accepted.1
 
 -- ---- the record is in range
 

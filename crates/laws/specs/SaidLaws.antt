@@ -1,15 +1,13 @@
 -- What an answer says in 01's numbers, from the answer itself: one law for each call.
-use Rattle.std.specs.Prelude.{ℕ, zero, suc, ◌≡◌, refl, List, []}
+use Rattle.std.specs.Prelude.{ℕ, zero, suc, ◌≡◌, refl, List, [], Err}
 use Rattle.std.proofs.Common.{sym, ap, ◌∙◌, inl, inr}
 use Rattle.std.proofs.Math.Option.{Option, none, some}
 use Rattle.segment.specs.Layout.{Layout}
 use Rattle.segment.specs.declared.Key.{Key}
 use Rattle.record.specs.Answers.{taken, taken_with, said_by, format_said, recover_said, read_said, start_said, step_said}
-use Rattle.record.specs.declared.ReadAnswer.{ReadAnswer}
+use Rattle.record.specs.Answered.{ReadAnswer, Recovery, Start}
 use Rattle.record.specs.declared.Refusal.{Refusal}
 use Rattle.record.specs.declared.Record.{Record}
-use Rattle.record.specs.declared.Recovery.{Recovery}
-use Rattle.record.specs.declared.Start.{Start}
 use Rattle.record.specs.declared.Tables.{Tables}
 use Rattle.model.specs.Log.{Placed, present}
 use Rattle.model.specs.Causes.{first_cause}
@@ -58,7 +56,7 @@ step-says L before idle o (suc k) = refl
 -- A read that answers as it must where a first cause holds and on genuine stores says what it must.
 pub read-settled :
     (L : Layout) (r : Record) (area cells : List ℕ) (t : Tables) (k : Key) (a : ReadAnswer) →
-    ((c : Refusal) → first_cause (reach_causes L r (read_lengths area cells) t k) ≡ some c → a ≡ ReadAnswer.Refused c) →
+    ((c : Refusal) → first_cause (reach_causes L r (read_lengths area cells) t k) ≡ some c → a ≡ Err c) →
     (Genuine L area r cells → a ≡
     read_answer (first_cause (read_causes L r (log_now area r) (read_lengths area cells) t k)) (present (log_now area r) k)) →
     Settled L area r cells (reach_causes L r (read_lengths area cells) t k) → read_said a ≡

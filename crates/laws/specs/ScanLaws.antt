@@ -9,8 +9,7 @@ use Rattle.segment.specs.declared.Key.{Key}
 use Rattle.record.specs.Range.{fits_lent}
 use Rattle.record.specs.declared.Refusal.{Refusal}
 use Rattle.record.specs.declared.Refusal.TheVariants.{Geometry, BadRecord, TooManyKeys}
-use Rattle.record.specs.declared.Reading.{Reading}
-use Rattle.record.specs.declared.ReadAnswer.{ReadAnswer}
+use Rattle.record.specs.Answered.{Reading, ReadAnswer}
 use Rattle.record.specs.declared.Record.{Record}
 use Rattle.record.specs.declared.Tables.{Tables}
 use Rattle.model.specs.Log.{View, Head, Placed, views_of, head_of, present}

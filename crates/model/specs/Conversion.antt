@@ -1,6 +1,6 @@
 -- 02, R-12: an image of one edition put into the other. The call takes N, S, an area to read and a second buffer of the same length; the
 -- edition of the head says which way it goes.
-use Rattle.std.specs.Prelude.{ℕ, zero, suc, ◌-◌, ◌≡◌, refl, Bool, false, not, List, [], ◌∷◌, ◌++◌, map, ltb, length, replicate}
+use Rattle.std.specs.Prelude.{ℕ, zero, suc, ◌-◌, ◌≡◌, refl, Bool, false, not, List, [], ◌∷◌, ◌++◌, map, ltb, length, replicate, Ok, Err}
 use Rattle.std.proofs.Math.Option.{Option, none, some}
 use Rattle.segment.specs.Choice.{pick, both, either}
 use Rattle.segment.specs.Layout.{Layout, other_layout, version_limit}
@@ -8,7 +8,7 @@ use Rattle.segment.specs.Entry.{Entry}
 use Rattle.segment.specs.Digest.{encoded_digest}
 use Rattle.segment.specs.declared.Digest.{Digest}
 use Rattle.record.specs.Answers.{taken, convert_said, said_by}
-use Rattle.record.specs.declared.ConvertAnswer.{ConvertAnswer}
+use Rattle.record.specs.Answered.{ConvertAnswer}
 use Rattle.record.specs.declared.Refusal.{Refusal}
 use Rattle.record.specs.declared.Refusal.TheVariants.{Geometry, SlotTooLong, VersionTooWide}
 use Rattle.model.specs.Log.{View, Item, views_of, head_of, items_of}
@@ -93,8 +93,8 @@ abbrev pub converted_image : ℕ → ℕ → List ℕ → List ℕ
 converted_image n s source = converted_slots (target_layout n s source) (views_of source s) (image_slots n s source) s n
 
 unfoldable pub convert_answer : Option Refusal → ConvertAnswer
-convert_answer none = ConvertAnswer.Converted
-convert_answer (some c) = ConvertAnswer.Refused c
+convert_answer none = (Ok tt)
+convert_answer (some c) = Err c
 
 -- Accepted or its number; where refused, the second buffer stays as it was.
 pub record ConvertPromise (n s : ℕ) (source target target' : List ℕ) (a : ConvertAnswer) : Type 0 where

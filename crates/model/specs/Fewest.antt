@@ -1,5 +1,5 @@
 -- 02, R-5: which slot of the log has the fewest present bytes, by the record's own numbers, whatever they are.
-use Rattle.std.specs.Prelude.{ℕ, zero, suc, ◌≡◌, Bool, true, not, List, [], ◌∷◌, leb, get_or}
+use Rattle.std.specs.Prelude.{ℕ, zero, suc, ◌≡◌, Bool, true, not, List, [], ◌∷◌, leb, get_or, Ok, Err}
 use Rattle.std.proofs.Math.Option.{Option, none, some}
 use Rattle.segment.specs.Choice.{pick, both, either}
 use Rattle.segment.specs.Layout.{Layout}
@@ -9,8 +9,7 @@ use Rattle.record.specs.Range.{in_range}
 use Rattle.record.specs.declared.Refusal.{Refusal}
 use Rattle.record.specs.declared.Refusal.TheVariants.{BadRecord}
 use Rattle.record.specs.declared.Record.{Record}
-use Rattle.record.specs.declared.Fewest.{Fewest}
-use Rattle.record.specs.declared.FewestAnswer.{FewestAnswer}
+use Rattle.record.specs.Answered.{Fewest, FewestAnswer}
 use Rattle.model.specs.Causes.{Cause, when, first_cause}
 use Rattle.model.specs.Refused.{Lengths}
 
@@ -40,8 +39,8 @@ abbrev pub fewest_causes : Layout → Record → List Cause
 fewest_causes L r = when (not (in_range L r)) BadRecord ∷ []
 
 unfoldable pub fewest_answer : Option Refusal → ℕ → FewestAnswer
-fewest_answer none i = FewestAnswer.Slot i
-fewest_answer (some c) i = FewestAnswer.Refused c
+fewest_answer none i = Ok i
+fewest_answer (some c) i = Err c
 
 -- The slot, or 4, of every record; the record is handed back. Allowed while an operation is pending.
 pub record FewestPromise (L : Layout) (r : Record) (a : Fewest) : Type 0 where

@@ -1,5 +1,5 @@
 -- 02, R-7: which two slots of the log to join, so that one new head takes over what is kept of both.
-use Rattle.std.specs.Prelude.{ℕ, zero, suc, ◌+◌, ◌^◌, ◌≡◌, Bool, true, false, not, List, [], ◌∷◌, ltb}
+use Rattle.std.specs.Prelude.{ℕ, zero, suc, ◌+◌, ◌^◌, ◌≡◌, Bool, true, false, not, List, [], ◌∷◌, ltb, Ok, Err}
 use Rattle.std.proofs.Math.Option.{Option, none, some}
 use Rattle.segment.specs.Choice.{pick, both, is_none}
 use Rattle.segment.specs.Layout.{Layout}
@@ -7,8 +7,7 @@ use Rattle.slot_map.specs.Bit.{named}
 use Rattle.record.specs.Pairs.{PairSaid, none_said, join_said}
 use Rattle.record.specs.Switch.{new_layout}
 use Rattle.record.specs.Refusals.{number_of_refusal}
-use Rattle.record.specs.declared.Joined.{Joined}
-use Rattle.record.specs.declared.JoinAnswer.{JoinAnswer}
+use Rattle.record.specs.Answered.{Joined, JoinAnswer}
 use Rattle.record.specs.declared.Record.{Record}
 use Rattle.record.specs.declared.Refusal.{Refusal}
 use Rattle.record.specs.declared.Refusal.TheVariants.{BadRecord, Busy, NoPair}
@@ -77,12 +76,12 @@ join_causes L r l p = when (record_bad L r l) BadRecord ∷ when (is_pending r.p
 -- ---- what the call promises
 
 unfoldable pub pair_answer : Option SlotPair → JoinAnswer
-pair_answer none = JoinAnswer.Pair 0 0
-pair_answer (some p) = JoinAnswer.Pair p.first p.second
+pair_answer none = Ok (record { first = 0; second = 0 })
+pair_answer (some p) = Ok (record { first = p.first; second = p.second })
 
 unfoldable pub join_answer : Option Refusal → Option SlotPair → JoinAnswer
 join_answer none p = pair_answer p
-join_answer (some c) p = JoinAnswer.Refused c
+join_answer (some c) p = Err c
 
 -- and what that says
 unfoldable pub pair_said : Option SlotPair → PairSaid
@@ -97,7 +96,7 @@ pair_said_by (some c) p = none_said (number_of_refusal c)
 -- operation, are refused whatever the log holds.
 pub record JoinPromise (L : Layout) (r : Record) (area cells : List ℕ) (a : Joined) : Type 0 where
   pub hands-back : a.rec ≡ r
-  pub early : (c : Refusal) → first_cause (join_early L r (read_lengths area cells)) ≡ some c → a.answer ≡ JoinAnswer.Refused c
+  pub early : (c : Refusal) → first_cause (join_early L r (read_lengths area cells)) ≡ some c → a.answer ≡ Err c
   pub exact :
       Genuine L area r cells → a.answer ≡
       join_answer (first_cause (join_causes L r (read_lengths area cells) (join_pair r (log_now area r)))) (join_pair r (log_now area r))

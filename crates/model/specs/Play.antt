@@ -13,7 +13,7 @@ use Rattle.slot_map.specs.Next.{slot_after, free_from, next_free}
 use Rattle.record.specs.Answers.{Said, recover_said, read_said, start_said, step_said, stores_left}
 use Rattle.record.specs.Range.{between, map_good, left_good, counts_good, in_range, lengths_own, fits_lent}
 use Rattle.record.specs.Refusals.{number_of_refusal}
-use Rattle.record.specs.declared.Recovery.{Recovery}
+use Rattle.record.specs.Answered.{Recovery}
 use Rattle.record.specs.declared.Refusal.{Refusal}
 use Rattle.record.specs.declared.Record.{Record}
 use Rattle.record.specs.declared.Tables.{Tables}

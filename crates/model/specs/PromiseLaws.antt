@@ -6,13 +6,9 @@ use Rattle.std.proofs.Math.Decide.{ℕ_discrete}
 use Rattle.segment.specs.Layout.{Layout}
 use Rattle.segment.specs.declared.Key.{Key}
 use Rattle.record.specs.Answers.{format_said, recover_said, read_said, start_said, step_said}
-use Rattle.record.specs.declared.FormatAnswer.{FormatAnswer}
-use Rattle.record.specs.declared.Reading.{Reading}
+use Rattle.record.specs.Answered.{FormatAnswer, Reading, Recovery, Start, Stepped}
 use Rattle.record.specs.declared.Record.{Record}
-use Rattle.record.specs.declared.Recovery.{Recovery}
 use Rattle.record.specs.declared.Refusal.{Refusal}
-use Rattle.record.specs.declared.Start.{Start}
-use Rattle.record.specs.declared.Stepped.{Stepped}
 use Rattle.record.specs.declared.Tables.{Tables}
 use Rattle.model.specs.Causes.{first_cause}
 use Rattle.model.specs.Operations.{Operation}

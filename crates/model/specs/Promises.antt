@@ -1,6 +1,6 @@
 -- 01, "What a contract says": what each call promises, for every input. Each relation below is a contract word for word, and a
 -- transition of the runs over which the whole promise about cuts is stated.
-use Rattle.std.specs.Prelude.{ℕ, zero, suc, ◌+◌, ◌-◌, ◌≤◌, ◌<◌, ◌≡◌, List, [], ◌⊎◌, eqb, length, get_or, take, drop, set, replicate}
+use Rattle.std.specs.Prelude.{ℕ, zero, suc, ◌+◌, ◌-◌, ◌≤◌, ◌<◌, ◌≡◌, List, [], ◌⊎◌, eqb, length, get_or, take, drop, set, replicate, Ok, Err}
 use Rattle.std.proofs.Math.Option.{Option, none, some}
 use Rattle.std.proofs.lemmas.List.Edits.{sets}
 use Rattle.std.specs.Borrow.{Bor}
@@ -15,17 +15,8 @@ use Rattle.record.specs.declared.Refusal.{Refusal}
 use Rattle.record.specs.Refusals.{number_of_refusal}
 use Rattle.record.specs.declared.Record.{Record}
 use Rattle.record.specs.declared.Tables.{Tables}
-use Rattle.record.specs.declared.FormatAnswer.{FormatAnswer}
-use Rattle.record.specs.declared.Recovery.{Recovery}
-use Rattle.record.specs.declared.RecoverAnswer.{RecoverAnswer}
-use Rattle.record.specs.declared.Reading.{Reading}
-use Rattle.record.specs.declared.ReadAnswer.{ReadAnswer}
-use Rattle.record.specs.declared.Start.{Start}
-use Rattle.record.specs.declared.StartAnswer.{StartAnswer}
-use Rattle.record.specs.declared.Stepped.{Stepped}
-use Rattle.record.specs.declared.StepAnswer.{StepAnswer}
-use Rattle.record.specs.declared.Foretold.{Foretold}
-use Rattle.record.specs.declared.TellAnswer.{TellAnswer}
+use Rattle.record.specs.Answered.{FormatAnswer, Recovery, RecoverAnswer, Reading, ReadAnswer, Start, StartAnswer, Stepped, StepAnswer, Foretold, TellAnswer}
+use Rattle.record.specs.declared.Progress.{Progress}
 use Rattle.model.specs.Log.{Placed, place_of, placed_kind, present}
 use Rattle.model.specs.Causes.{Cause, first_cause}
 use Rattle.model.specs.Recovery.{recovered, recovery, recover_causes}
@@ -70,8 +61,8 @@ Settled L area r cells early = ((c : Refusal) × (first_cause early ≡ some c))
 -- ---- format
 
 unfoldable pub format_answer : Option Refusal → FormatAnswer
-format_answer none = FormatAnswer.Formatted
-format_answer (some c) = FormatAnswer.Refused c
+format_answer none = (Ok tt)
+format_answer (some c) = Err c
 
 unfoldable pub area_unless : Option Refusal → List ℕ → List ℕ → List ℕ
 area_unless none new old = new
@@ -87,8 +78,8 @@ pub record FormatPromise (e n s : ℕ) (area area' : List ℕ) (a : FormatAnswer
 
 -- The index is untouched where recovery is refused, but all 0 at 20, and keeps the rule where it is accepted.
 unfoldable pub IndexAfter : List ℕ → List ℕ → List ℕ → Recovery → RecoverAnswer → Type 0
-IndexAfter area cells cells' r RecoverAnswer.Recovered = IndexRule r.rec.size (log_now area r.rec) cells'
-IndexAfter area cells cells' r (RecoverAnswer.Refused c) = cells' ≡ pick (eqb (number_of_refusal c) 20) (replicate (length cells) 0) cells
+IndexAfter area cells cells' r (Ok u) = IndexRule r.rec.size (log_now area r.rec) cells'
+IndexAfter area cells cells' r (Err c) = cells' ≡ pick (eqb (number_of_refusal c) 20) (replicate (length cells) 0) cells
 
 -- The record or the first cause, whatever the order of the slots.
 pub record RecoverPromise (L : Layout) (n s : ℕ) (order area cells cells' : List ℕ) (r : Recovery) : Type 0 where
@@ -101,12 +92,12 @@ pub record RecoverPromise (L : Layout) (n s : ℕ) (order area cells cells' : Li
 
 -- The kind is the one that stands in the object's own slot.
 unfoldable pub present_answer : Option Placed → ReadAnswer
-present_answer none = ReadAnswer.Present (record { 0 = 0 }) 0
-present_answer (some x) = ReadAnswer.Present (record { 0 = x.entry.version }) (placed_kind x)
+present_answer none = Ok (record { version = (record { 0 = 0 }); kind = 0 })
+present_answer (some x) = Ok (record { version = (record { 0 = x.entry.version }); kind = (placed_kind x) })
 
 unfoldable pub read_answer : Option Refusal → Option Placed → ReadAnswer
 read_answer none x = present_answer x
-read_answer (some c) x = ReadAnswer.Refused c
+read_answer (some c) x = Err c
 
 -- what a read of that object says: its version and kind
 unfoldable pub object_said : Option Placed → Said
@@ -121,7 +112,7 @@ read_lengths area cells = record { area = length area; index = length cells; wor
 -- work buffer.
 pub record ReadPromise (L : Layout) (r : Record) (area cells : List ℕ) (t : Tables) (k : Key) (a : Reading) : Type 0 where
   pub hands-back : a.rec ≡ r
-  pub early : (c : Refusal) → first_cause (reach_causes L r (read_lengths area cells) t k) ≡ some c → a.answer ≡ ReadAnswer.Refused c
+  pub early : (c : Refusal) → first_cause (reach_causes L r (read_lengths area cells) t k) ≡ some c → a.answer ≡ Err c
   pub exact :
       Genuine L area r cells → a.answer ≡
       read_answer (first_cause (read_causes L r (log_now area r) (read_lengths area cells) t k)) (present (log_now area r) k)
@@ -187,10 +178,10 @@ pub record Begun : Type 0 where
 unfoldable pub begun : Layout → Record → List Placed → Operation → List ℕ → Option Refusal → Begun
 begun L r log o work none =
     record {
-      start = record { answer = StartAnswer.Started (stores_for L r log o); rec = started_record L r log o };
+      start = record { answer = Ok (stores_for L r log o); rec = started_record L r log o };
       work = sets work 0 (laid L r log o).bytes;
     }
-begun L r log o work (some c) = record { start = record { answer = StartAnswer.Refused c; rec = r }; work = work }
+begun L r log o work (some c) = record { start = record { answer = Err c; rec = r }; work = work }
 
 abbrev pub lent_lengths : List ℕ → List ℕ → List ℕ → Lengths
 lent_lengths area cells work = record { area = length area; index = length cells; work = length work }
@@ -216,7 +207,7 @@ OneByte area area' = (p : ℕ) × (b : ℕ) × (area' ≡ set area p b)
 
 -- Where a step is refused nothing changes.
 pub record StepRefused (r : Record) (area area' cells cells' : List ℕ) (a : Stepped) (c : Refusal) : Type 0 where
-  pub answers : a ≡ record { answer = StepAnswer.Refused c; rec = r }
+  pub answers : a ≡ record { answer = Err c; rec = r }
   pub says : step_said a.answer ≡ refusal (number_of_refusal c)
   pub area_same : area' ≡ area
   pub index_same : cells' ≡ cells
@@ -224,10 +215,10 @@ pub record StepRefused (r : Record) (area area' cells cells' : List ℕ) (a : St
 -- The answer and the record of a step after which `left` stores are left.
 unfoldable pub stepped : Layout → List ℕ → Record → Operation → ℕ → Stepped
 stepped L before idle o zero =
-    record { answer = StepAnswer.Done (record { 0 = told_version idle o }); rec = finished_record L before idle o }
+    record { answer = Ok (Progress.Done (record { 0 = told_version idle o })); rec = finished_record L before idle o }
 stepped L before idle o (suc k) =
     record {
-      answer = StepAnswer.Left (suc k);
+      answer = Ok (Progress.Left (suc k));
       rec = with_pending idle ((laid L idle (log_now before idle) o).pending (suc k));
     }
 
@@ -273,11 +264,11 @@ turn_of L area r work s = get_or (plan_for L s.idle (log_now s.before s.idle) s.
 -- started operation, place and byte of the store that its next step makes. Whatever is told lies in the area.
 pub record TellPromise (L : Layout) (r : Record) (area work : List ℕ) (a : Foretold) : Type 0 where
   pub hands-back : a.rec ≡ r
-  pub refused : (c : Refusal) → first_cause (tell_causes L r (tell_lengths area work)) ≡ some c → a.answer ≡ TellAnswer.Refused c
+  pub refused : (c : Refusal) → first_cause (tell_causes L r (tell_lengths area work)) ≡ some c → a.answer ≡ Err c
   pub exact :
       first_cause (tell_causes L r (tell_lengths area work)) ≡ none → (s : Started L area r work) →
-      a.answer ≡ TellAnswer.At (turn_of L area r work s).0 (turn_of L area r work s).1
-  pub inside : (place byte : ℕ) → a.answer ≡ TellAnswer.At place byte → place < length area
+      a.answer ≡ Ok (record { place = (turn_of L area r work s).0; byte = (turn_of L area r work s).1 })
+  pub inside : (place byte : ℕ) → a.answer ≡ Ok (record { place = place; byte = byte }) → place < length area
   pub says :
       ((c : Refusal) × (first_cause (tell_causes L r (tell_lengths area work)) ≡ some c)) ⊎ Started L area r work →
       tell_said a.answer ≡ said_by (first_cause (tell_causes L r (tell_lengths area work))) taken

@@ -1,6 +1,6 @@
 -- 01, "The log and its map" and "Refused calls": what recovery gives for an image, and the causes 1, 2 and 15 to 20, with 24 and 25
 -- of 02, R-8, and 28 of R-11 and R-13. The layout in these definitions is that of the store, which is its head's.
-use Rattle.std.specs.Prelude.{ℕ, zero, suc, ◌+◌, ◌*◌, ◌-◌, Bool, true, false, not, List, [], ◌∷◌, ◌++◌, eqb, ltb, length}
+use Rattle.std.specs.Prelude.{ℕ, zero, suc, ◌+◌, ◌*◌, ◌-◌, Bool, true, false, not, List, [], ◌∷◌, ◌++◌, eqb, ltb, length, Ok, Err}
 use Rattle.std.proofs.Math.Option.{Option, none, some}
 use Rattle.segment.specs.Choice.{pick, both, either, is_none}
 use Rattle.segment.specs.Layout.{Layout, edition1, edition2, same_layout}
@@ -12,8 +12,7 @@ use Rattle.record.specs.declared.Refusal.{Refusal}
 use Rattle.record.specs.declared.Refusal.TheVariants.{Geometry, Cells, BadOrder, NoDigest, BadDigest, BadMap, MapNoDigest, MixedEditions, DamagedLog, SharedVersion, TooManyKeys}
 use Rattle.record.specs.declared.Pending.TheVariants.{Idle}
 use Rattle.record.specs.declared.Record.{Record}
-use Rattle.record.specs.declared.Recovery.{Recovery}
-use Rattle.record.specs.declared.RecoverAnswer.{RecoverAnswer}
+use Rattle.record.specs.Answered.{Recovery, RecoverAnswer}
 use Rattle.model.specs.Log.{View, Head, Placed, views_of, head_of, log_of, end_of, is_damaged, keys_of, version_shared, next_version}
 use Rattle.model.specs.Counts.{counts_of}
 use Rattle.model.specs.Causes.{Cause, when, first_cause}
@@ -174,8 +173,8 @@ recovered L n s m area =
 
 -- What the call answers: the record, or the first cause beside the blank record.
 unfoldable pub recovery_for : Option Refusal → Record → Recovery
-recovery_for none r = record { answer = RecoverAnswer.Recovered; rec = r }
-recovery_for (some c) r = record { answer = RecoverAnswer.Refused c; rec = blank }
+recovery_for none r = record { answer = (Ok tt); rec = r }
+recovery_for (some c) r = record { answer = Err c; rec = blank }
 
 unfoldable pub recovery : Layout → ℕ → ℕ → ℕ → List ℕ → List ℕ → Recovery
 recovery L n s m order area = recovery_for (first_cause (recover_causes L n s m order area)) (record_from L n s m area)

@@ -6,7 +6,7 @@ use Rattle.segment.specs.Layout.{Layout}
 use Rattle.segment.specs.declared.Key.{Key}
 use Rattle.record.specs.Answers.{read_said, said_by}
 use Rattle.record.specs.declared.Refusal.TheVariants.{Geometry, Absent, OutsideTables}
-use Rattle.record.specs.declared.ReadAnswer.{ReadAnswer}
+use Rattle.record.specs.Answered.{ReadAnswer}
 use Rattle.record.specs.declared.Tables.{Tables}
 use Rattle.model.specs.Log.{Placed, views_of, head_of, present}
 use Rattle.model.specs.Causes.{Cause, when, first_cause}

@@ -1,28 +1,28 @@
 -- What the answers of the calls are compared with.
-use Rattle.std.specs.Prelude.{◌≡◌, ℕ, ◌-◌, Bool, true, false, ◌==◌, ◌≢◌, nat_eq, nat_lt, refl}
-use Rattle.std.proofs.Common.{sym, ◌∙◌, ap, eq-eqb, ne_eqb}
+use Rattle.std.specs.Prelude.{◌≡◌, ℕ, ◌-◌, ◌≤◌, Bool, true, false, ◌==◌, ◌≢◌, nat_eq, nat_lt, refl, Ok, Err}
+use Rattle.std.proofs.Common.{sym, ◌∙◌, ap, arith, eq-eqb, ne_eqb}
 use Rattle.segment.specs.Choice.{pick, both, or_zero}
 use Rattle.segment.proofs.Choice.{pick_true, pick-false, both-false-left}
 use Rattle.segment.specs.Layout.{edition1, object_kind}
 use Rattle.segment.specs.declared.Version.{Version}
 use Rattle.record.specs.Refusals.{number_of_refusal}
 use Rattle.record.specs.declared.Pending.{Pending}
-use Rattle.record.specs.declared.ReadAnswer.{ReadAnswer}
+use Rattle.record.specs.Answered.{ReadAnswer, StepAnswer}
+use Rattle.record.specs.declared.Progress.{Progress}
 use Rattle.record.specs.declared.Refusal.{Refusal}
-use Rattle.record.specs.declared.StepAnswer.{StepAnswer}
 use Rattle.play.specs.declared.book.Held.{Held}
 
 -- a step says that so many stores are left, and after the last one the version
 abbrev pub step_says : StepAnswer → ℕ → Version → Bool
-step_says (StepAnswer.Left n) left version = both (n == left) (nat_lt 0 left)
-step_says (StepAnswer.Done v) left version = both (v.0 == version.0) (left == 0)
-step_says (StepAnswer.Refused c) left version = false
+step_says (Ok (Progress.Left n)) left version = both (n == left) (nat_lt 0 left)
+step_says (Ok (Progress.Done v)) left version = both (v.0 == version.0) (left == 0)
+step_says (Err c) left version = false
 
 -- a read says version and kind of what the key has, or that it is not present
 abbrev pub read_says : ReadAnswer → Held → Bool
-read_says (ReadAnswer.Present v kind) h =
-    both (v.0 == h.version.0) (kind == or_zero (object_kind edition1 h.value.length))
-read_says (ReadAnswer.Refused c) h = both (h.version.0 == 0) (number_of_refusal c == 8)
+read_says (Ok s) h =
+    both (s.version.0 == h.version.0) (s.kind == or_zero (object_kind edition1 h.value.length))
+read_says (Err c) h = both (h.version.0 == 0) (number_of_refusal c == 8)
 
 -- how many bytes of the work buffer are the pending operation's
 abbrev pub work_bytes : Pending → ℕ
@@ -51,14 +51,14 @@ both-fails : (a b : ℕ) (rest : Bool) → (a ≢ b) → (a == b) ≡ both (a ==
 both-fails a b rest e = ne_eqb a b e ∙ sym (both-false-left (a == b) rest (ne_eqb a b e))
 
 module _ (answer : StepAnswer) (left : ℕ) (version : Version) where
-  module _ (n : ℕ) (is : answer ≡ StepAnswer.Left n) where
+  module _ (n : ℕ) (is : answer ≡ Ok (Progress.Left n)) where
     pub left-says : n ≡ left → nat_lt 0 left ≡ step_says answer left version
     left-says e = both-holds n left (nat_lt 0 left) e ∙ sym (ap (λ (a : StepAnswer). step_says a left version) is)
 
     pub left-differs : (n ≢ left) → (n == left) ≡ step_says answer left version
     left-differs e = both-fails n left (nat_lt 0 left) e ∙ sym (ap (λ (a : StepAnswer). step_says a left version) is)
 
-  module _ (v : Version) (is : answer ≡ StepAnswer.Done v) where
+  module _ (v : Version) (is : answer ≡ Ok (Progress.Done v)) where
     pub done-says : v.0 ≡ version.0 → (left == 0) ≡ step_says answer left version
     done-says e = both-holds v.0 version.0 (left == 0) e ∙ sym (ap (λ (a : StepAnswer). step_says a left version) is)
 
@@ -66,7 +66,7 @@ module _ (answer : StepAnswer) (left : ℕ) (version : Version) where
     done-differs e = both-fails v.0 version.0 (left == 0) e ∙ sym (ap (λ (a : StepAnswer). step_says a left version) is)
 
 module _ (answer : ReadAnswer) (h : Held) where
-  module _ (v : Version) (kind : ℕ) (is : answer ≡ ReadAnswer.Present v kind) where
+  module _ (v : Version) (kind : ℕ) (is : answer ≡ Ok (record { version = v; kind = kind })) where
     pub present-says : v.0 ≡ h.version.0 → (k : ℕ) → k ≡ or_zero (object_kind edition1 h.value.length) → (kind == k) ≡ read_says answer h
     present-says e k its =
         ap (nat_eq kind) its
@@ -78,7 +78,7 @@ module _ (answer : ReadAnswer) (h : Held) where
         both-fails v.0 h.version.0 (kind == or_zero (object_kind edition1 h.value.length)) e
         ∙ sym (ap (λ (a : ReadAnswer). read_says a h) is)
 
-  module _ (cause : Refusal) (is : answer ≡ ReadAnswer.Refused cause) where
+  module _ (cause : Refusal) (is : answer ≡ Err cause) where
     pub absent-says : h.version.0 ≡ 0 → (k : ℕ) → k ≡ number_of_refusal cause → (k == 8) ≡ read_says answer h
     absent-says e k its =
         ap (λ (n : ℕ). nat_eq n 8) its ∙ both-holds h.version.0 0 (number_of_refusal cause == 8) e ∙ sym (ap (λ (a : ReadAnswer). read_says a h) is)
@@ -91,6 +91,16 @@ none-unmade stores fails e = sym (pick_true (fails == 0) 0 (stores - fails) (eq-
 
 pub some-unmade : (stores fails n : ℕ) → (fails ≢ 0) → n ≡ stores - fails → n ≡ not_made stores fails
 some-unmade stores fails n e its = its ∙ sym (pick-false (fails == 0) 0 (stores - fails) (ne_eqb fails 0 e))
+
+-- no more than all stores are not made
+pub unmade-within : (stores fails n : ℕ) → n ≡ not_made stores fails → n ≤ stores
+unfolding pick
+unmade-within stores fails n its =
+    elim (fails == 0) as (λ (t : Bool). n ≡ pick t 0 (stores - fails) → n ≤ stores) [
+      | true ↦ λ e. omega arith
+      | false ↦ λ e. omega arith
+    ]
+    its
 
 module _ (bad made : ℕ) (agrees : Bool) where
   pub bad-agrees : agrees ≡ true → bad ≡ first_bad bad made agrees

@@ -5,7 +5,7 @@ use Rattle.segment.specs.Choice.{pick}
 use Rattle.segment.specs.declared.Key.{Key}
 use Rattle.segment.specs.declared.Version.{Version}
 use Rattle.record.specs.declared.Record.{Record}
-use Rattle.record.specs.declared.Recovery.{Recovery}
+use Rattle.record.specs.Answered.{Recovery}
 use Rattle.model.specs.Recovery.{image_layout, recovery}
 use Rattle.play.specs.declared.book.Book.{Book}
 use Rattle.play.specs.declared.book.Held.{Held}

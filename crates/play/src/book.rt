@@ -16,7 +16,7 @@ pub struct Value {
     pub rise: u8,
 }
 
-// What a key has. Version 0 stands for a key that is not present.
+// What a key has. Version 0 stands for a key that is not present: no `Option`, since `read_says` compares versions alone.
 #[derive(Clone, Copy)]
 pub struct Held {
     pub version: Version,

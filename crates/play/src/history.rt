@@ -3,6 +3,7 @@ ghost use Rattle.std.specs.Prelude.{◌≡◌, ◌<◌};
 
 use crate::book::Value;
 use crate::lines::Output;
+use crate::memory::Memory;
 use crate::operations::Played;
 use crate::{lines, memory, operations};
 
@@ -27,10 +28,7 @@ pub enum Event {
     Recover,
 }
 
-// How many events there are.
-pub const EVENTS: usize = 158;
-
-// The history stands in parts, each with a function of its own: the check of one table of all events takes far longer.
+// The history stands in parts: the check of one table of all events takes far longer.
 
 // 01's cases, with the cuts of case 3.
 const CASES: [Event; 28] = [
@@ -216,52 +214,8 @@ const MORE_JOINS: [Event; 31] = [
     Event::Recover,
 ];
 
-fn cases(i: usize) -> Event
-    requires { i < 28 }
-{
-    CASES[i]
-}
-
-fn changes(i: usize) -> Event
-    requires { i < 30 }
-{
-    CHANGES[i]
-}
-
-fn filled(i: usize) -> Event
-    requires { i < 38 }
-{
-    FILLED[i]
-}
-
-fn joins(i: usize) -> Event
-    requires { i < 31 }
-{
-    JOINS[i]
-}
-
-fn more_joins(i: usize) -> Event
-    requires { i < 31 }
-{
-    MORE_JOINS[i]
-}
-
-// The event of a number, which is below that of all events.
-pub fn scheduled(i: usize) -> Event
-    requires { i < 158 }
-{
-    if i < 28 {
-        cases(i)
-    } else if i < 58 {
-        changes(i - 28)
-    } else if i < 96 {
-        filled(i - 58)
-    } else if i < 127 {
-        joins(i - 96)
-    } else {
-        more_joins(i - 127)
-    }
-}
+// The parts in their order.
+pub const PARTS: [&[Event]; 5] = [&CASES, &CHANGES, &FILLED, &JOINS, &MORE_JOINS];
 
 fn failing(played: Played, fails: u32) -> Played
     ensures { result ≡ record { rec = played.rec; book = played.book; fails = fails } }
@@ -280,30 +234,42 @@ fn heading<R: Print>(out: &mut Output<'_, R>, played: Played, case: u32) -> Play
 }
 
 // What an event does.
-pub fn happens<R: Print>(
+fn happens<R: Print>(
     out: &mut Output<'_, R>,
     event: Event,
     played: Played,
-    area: &mut [u8; 1024],
-    index: &mut [u32; 16],
-    work: &mut [u8; 256],
+    lent: &mut Memory,
 ) -> Played {
     match event {
         Event::Case(n) => heading(out, played, n),
-        Event::Format => memory::fresh(out, area, index),
-        Event::Spread => memory::spread(out, area, index),
+        Event::Format => memory::fresh(out, lent),
+        Event::Spread => memory::spread(out, lent),
         Event::Write(number, length, first, rise) => {
             let value = Value {
                 length,
                 first,
                 rise,
             };
-            operations::write_key(out, played, area, index, work, number, value)
+            operations::write_key(out, played, lent, number, value)
         }
-        Event::Delete(number) => operations::delete_key(out, played, area, index, work, number),
-        Event::Clean(victims) => operations::clean_slots(out, played, area, index, work, victims),
-        Event::Join => operations::join_slots(out, played, area, index, work),
+        Event::Delete(number) => operations::delete_key(out, played, lent, number),
+        Event::Clean(victims) => operations::clean_slots(out, played, lent, victims),
+        Event::Join => operations::join_slots(out, played, lent),
         Event::Fails(n) => failing(played, n),
-        Event::Recover => memory::power_on(out, area, index, played.book),
+        Event::Recover => memory::power_on(out, lent, played.book),
     }
+}
+
+// What the events of a part do, one after the other.
+pub fn goes_on<R: Print>(
+    out: &mut Output<'_, R>,
+    part: &[Event],
+    played: Played,
+    lent: &mut Memory,
+) -> Played {
+    let mut played = played;
+    for event in part {
+        played = happens(out, *event, played, lent);
+    }
+    played
 }

@@ -23,6 +23,7 @@ impl<'a, R: Print> Output<'a, R> {
     }
 }
 
+// Names and numbers are written apart, and a line is no single `print!`: each goes out only where all before it did.
 pub fn text<R: Print>(out: &mut Output<'_, R>, name: &[u8]) {
     if out.written.is_ok() {
         out.written = out.rt.write_all(name);
@@ -63,10 +64,8 @@ fn byte<R: Print>(out: &mut Output<'_, R>, b: u8) {
 // The first bytes of a buffer, to the end of the line.
 pub fn bytes<R: Print>(out: &mut Output<'_, R>, name: &[u8], buffer: &[u8], count: usize) {
     text(out, name);
-    for (i, b) in buffer.iter().enumerate() {
-        if i < count {
-            byte(out, *b);
-        }
+    for b in buffer.iter().take(count) {
+        byte(out, *b);
     }
     text(out, b"\n");
 }

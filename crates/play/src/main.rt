@@ -3,6 +3,7 @@
 #![tactic(auto)]
 
 use lines::Output;
+use memory::Memory;
 use std::io;
 
 mod book;
@@ -14,13 +15,14 @@ mod reads;
 
 fn main(rt: HostRuntime) -> io::Result<()> {
     let mut out = Output::new(&rt);
-    let mut area = [0; 1024];
-    let mut index = [0; 16];
-    let mut work = [0xee; 256];
-    let mut played = memory::fresh(&mut out, &mut area, &mut index);
-    for i in 0..history::EVENTS {
-        let event = history::scheduled(i);
-        played = history::happens(&mut out, event, played, &mut area, &mut index, &mut work);
+    let mut lent = Memory {
+        area: [0; 1024],
+        index: [0; 16],
+        work: [0xee; 256],
+    };
+    let mut played = memory::fresh(&mut out, &mut lent);
+    for part in history::PARTS {
+        played = history::goes_on(&mut out, part, played, &mut lent);
     }
     out.end()
 }

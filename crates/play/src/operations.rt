@@ -1,20 +1,21 @@
 // An operation of a history: its start, its steps to the end or to the failing of the supply, and a cut after each of its stores.
 // A function that makes calls has no contract of its own where theirs say nothing of records that are not genuine; what it
 // answers shows in the output.
-ghost use Rattle.std.specs.Prelude.{◌≡◌, ◌==◌};
+ghost use Rattle.std.specs.Prelude.{◌≡◌, ◌==◌, ◌≤◌};
 ghost use Rattle.segment.specs.Choice.{pick};
 ghost use Rattle.play.specs.Book.{played};
 ghost use Rattle.play.specs.Answers.{step_says, work_bytes, first_bad, not_made};
 
 use crate::book::{Book, Value};
 use crate::lines::Output;
+use crate::memory::Memory;
 use crate::{book, lines, memory, reads};
-use record::{JoinAnswer, Pending, Record, Start, StartAnswer, StepAnswer, Tables};
+use record::{Pending, Progress, Record, Refusal, Start};
 use segment::Version;
 use slot_map::with_slot;
 use store::{clean, delete, join, step, write};
 
-// The record, the book, and after how many stores of the next operation the supply fails, 0 where it does not.
+// The record, the book, and after how many stores of the next operation the supply fails, 0 where it does not (`not_made` counts so).
 #[derive(Clone, Copy)]
 pub struct Played {
     pub rec: Record,
@@ -32,13 +33,15 @@ struct Due {
 }
 
 // Whether a step says that so many stores are left, and after the last one the version.
-fn told(answer: StepAnswer, left: u32, version: Version) -> bool
+fn told(answer: Result<Progress, Refusal>, left: u32, version: Version) -> bool
     ensures { result ≡ step_says answer left version }
 {
     match answer {
-        StepAnswer::Left(n) => n == left && 0 < left,
-        StepAnswer::Done(v) => v.0 == version.0 && left == 0,
-        StepAnswer::Refused(_) => false,
+        Ok(progress) => match progress {
+            Progress::Left(n) => n == left && 0 < left,
+            Progress::Done(v) => v.0 == version.0 && left == 0,
+        },
+        Err(_) => false,
     }
 }
 
@@ -54,10 +57,9 @@ fn book_at(left: u32, due: Due) -> Book
 
 // Whether a step after which so many stores are left said so, and the reads are then the book's.
 fn step_agrees(
-    answer: StepAnswer,
+    answer: Result<Progress, Refusal>,
     rec: Record,
-    area: &[u8; 1024],
-    index: &[u32; 16],
+    lent: &Memory,
     left: u32,
     due: Due,
 ) -> bool {
@@ -65,7 +67,7 @@ fn step_agrees(
     if !told(answer, left, version) {
         return false;
     }
-    reads::both_agree(rec, area, index, book_at(left, due))
+    reads::both_agree(rec, lent, book_at(left, due))
 }
 
 // The first store that differs: the one noted before, or this one.
@@ -85,29 +87,27 @@ fn noted(bad: u32, made: u32, agrees: bool) -> u32
 fn steps<R: Print>(
     out: &mut Output<'_, R>,
     rec: Record,
-    area: &mut [u8; 1024],
-    index: &mut [u32; 16],
-    work: &[u8; 256],
+    lent: &mut Memory,
     stores: u32,
     rest: u32,
     due: Due,
-) -> Record {
+) -> Record
+    requires { rest ≤ stores }
+{
     let mut rec = rec;
-    let mut left = stores;
     let mut bad = 0;
-    while rest < left {
-        left -= 1;
-        let stepped = step(rec, area, index, work);
+    for left in (rest..stores).rev() {
+        let stepped = step(rec, &mut lent.area, &mut lent.index, &lent.work);
         let answer = stepped.answer;
         let after = stepped.rec;
         rec = after;
         bad = noted(
             bad,
             stores - left,
-            step_agrees(answer, after, area, index, left, due),
+            step_agrees(answer, after, lent, left, due),
         );
     }
-    lines::cuts(out, stores - left, bad);
+    lines::cuts(out, stores - rest, bad);
     rec
 }
 
@@ -143,8 +143,7 @@ fn work_bytes(rec: Record) -> u32
 fn refused<R: Print>(
     out: &mut Output<'_, R>,
     rec: Record,
-    area: &[u8; 1024],
-    index: &[u32; 16],
+    lent: &Memory,
     number: u32,
     book: Book,
 ) -> Played
@@ -154,7 +153,7 @@ fn refused<R: Print>(
         out,
         b": refused ",
         number,
-        reads::both_agree(rec, area, index, book),
+        reads::both_agree(rec, lent, book),
     );
     Played {
         rec,
@@ -180,9 +179,7 @@ fn unmade(stores: u32, fails: u32) -> u32
 fn accepted<R: Print>(
     out: &mut Output<'_, R>,
     rec: Record,
-    area: &mut [u8; 1024],
-    index: &mut [u32; 16],
-    work: &[u8; 256],
+    lent: &mut Memory,
     stores: u32,
     due: Due,
 ) -> Played {
@@ -192,8 +189,8 @@ fn accepted<R: Print>(
     let version = due.version;
     lines::field(out, b": ", stores);
     lines::version(out, b" stores, version ", version);
-    let rec = steps(out, rec, area, index, work, stores, rest, due);
-    lines::bytes(out, b" ", work, count as usize);
+    let rec = steps(out, rec, lent, stores, rest, due);
+    lines::bytes(out, b" ", &lent.work, count as usize);
     if due.fails == 0 {
         return Played {
             rec,
@@ -202,33 +199,24 @@ fn accepted<R: Print>(
         };
     }
     lines::cut(out, due.fails);
-    memory::power_on(out, area, index, book)
+    memory::power_on(out, lent, book)
 }
 
 // An operation from its start on.
-fn run<R: Print>(
-    out: &mut Output<'_, R>,
-    start: Start,
-    area: &mut [u8; 1024],
-    index: &mut [u32; 16],
-    work: &[u8; 256],
-    due: Due,
-) -> Played {
+fn run<R: Print>(out: &mut Output<'_, R>, start: Start, lent: &mut Memory, due: Due) -> Played {
     let answer = start.answer;
     let rec = start.rec;
     let book = due.before;
     match answer {
-        StartAnswer::Refused(cause) => refused(out, rec, area, index, record::number(cause), book),
-        StartAnswer::Started(stores) => accepted(out, rec, area, index, work, stores, due),
+        Err(cause) => refused(out, rec, lent, record::number(cause), book),
+        Ok(stores) => accepted(out, rec, lent, stores, due),
     }
 }
 
 pub fn write_key<R: Print>(
     out: &mut Output<'_, R>,
     played: Played,
-    area: &mut [u8; 1024],
-    index: &mut [u32; 16],
-    work: &mut [u8; 256],
+    lent: &mut Memory,
     number: usize,
     value: Value,
 ) -> Played {
@@ -236,13 +224,18 @@ pub fn write_key<R: Print>(
     let before = played.book;
     let key = book::key(number);
     let bytes = memory::value_bytes(value);
-    let length = memory::at_most(memory::LONGEST, value.length);
+    let length = value.length.min(memory::LONGEST);
     lines::operation(out, b"write", key);
-    let tables = Tables {
-        first: 0,
-        last: 65535,
-    };
-    let start = write(rec, area, index, work, tables, key, &bytes[0..length]);
+    let tables = memory::ALL_TABLES;
+    let start = write(
+        rec,
+        &lent.area,
+        &lent.index,
+        &mut lent.work,
+        tables,
+        key,
+        &bytes[..length],
+    );
     let version = before.next;
     let due = Due {
         version,
@@ -250,26 +243,21 @@ pub fn write_key<R: Print>(
         after: book::written(before, number, value),
         fails: played.fails,
     };
-    run(out, start, area, index, work, due)
+    run(out, start, lent, due)
 }
 
 pub fn delete_key<R: Print>(
     out: &mut Output<'_, R>,
     played: Played,
-    area: &mut [u8; 1024],
-    index: &mut [u32; 16],
-    work: &mut [u8; 256],
+    lent: &mut Memory,
     number: usize,
 ) -> Played {
     let rec = played.rec;
     let before = played.book;
     let key = book::key(number);
     lines::operation(out, b"delete", key);
-    let tables = Tables {
-        first: 0,
-        last: 65535,
-    };
-    let start = delete(rec, area, index, work, tables, key);
+    let tables = memory::ALL_TABLES;
+    let start = delete(rec, &lent.area, &lent.index, &mut lent.work, tables, key);
     let version = before.next;
     let due = Due {
         version,
@@ -277,29 +265,27 @@ pub fn delete_key<R: Print>(
         after: book::deleted(before, number),
         fails: played.fails,
     };
-    run(out, start, area, index, work, due)
+    run(out, start, lent, due)
 }
 
 // A cleaning changes nothing that the book has, and its version is 0.
 pub fn clean_slots<R: Print>(
     out: &mut Output<'_, R>,
     played: Played,
-    area: &mut [u8; 1024],
-    index: &mut [u32; 16],
-    work: &mut [u8; 256],
+    lent: &mut Memory,
     victims: u32,
 ) -> Played {
     let rec = played.rec;
     let book = played.book;
     lines::field(out, b"clean ", victims);
-    let start = clean(rec, area, index, work, victims);
+    let start = clean(rec, &lent.area, &lent.index, &mut lent.work, victims);
     let due = Due {
         version: Version(0),
         before: book,
         after: book,
         fails: played.fails,
     };
-    run(out, start, area, index, work, due)
+    run(out, start, lent, due)
 }
 
 // A map with a slot more; a slot that no map names is left out.
@@ -311,24 +297,18 @@ fn with(map: u32, slot: u32) -> u32 {
 }
 
 // The two slots that one new head can take over are told and cleaned.
-pub fn join_slots<R: Print>(
-    out: &mut Output<'_, R>,
-    played: Played,
-    area: &mut [u8; 1024],
-    index: &mut [u32; 16],
-    work: &mut [u8; 256],
-) -> Played {
+pub fn join_slots<R: Print>(out: &mut Output<'_, R>, played: Played, lent: &mut Memory) -> Played {
     let rec = played.rec;
-    let joined = join(rec, area, index);
+    let joined = join(rec, &lent.area, &lent.index);
     let answer = joined.answer;
     match answer {
-        JoinAnswer::Pair { first, second } => {
-            lines::field(out, b"join ", first);
-            lines::field(out, b" ", second);
+        Ok(pair) => {
+            lines::field(out, b"join ", pair.first);
+            lines::field(out, b" ", pair.second);
             lines::text(out, b"\n");
-            clean_slots(out, played, area, index, work, with(with(0, first), second))
+            clean_slots(out, played, lent, with(with(0, pair.first), pair.second))
         }
-        JoinAnswer::Refused(cause) => {
+        Err(cause) => {
             lines::field(out, b"join: refused ", record::number(cause));
             lines::text(out, b"\n");
             played

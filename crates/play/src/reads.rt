@@ -4,8 +4,9 @@ ghost use Rattle.play.specs.Answers.{read_says};
 ghost use Rattle.play.specs.Values.{bytes_are};
 
 use crate::book::{Book, Held, Value};
+use crate::memory::Memory;
 use crate::{book, memory};
-use record::{ReadAnswer, Record, RecoverAnswer, Tables};
+use record::{Present, Record, Refusal};
 use segment::Edition;
 use segment::layout::object_kind;
 use store::{read, read_value, recover};
@@ -17,29 +18,27 @@ fn bytes_are(bytes: &[u8], value: Value) -> bool
     if bytes.len() != value.length {
         return false;
     }
-    let mut byte = value.first;
-    let mut i = 0;
-    while i < bytes.len() {
-        if bytes[i] != byte {
+    let mut due = value.first;
+    for byte in bytes {
+        if *byte != due {
             return false;
         }
-        byte = std::num::wrapping_add_u8(byte, value.rise);
-        i += 1;
+        due = due.wrapping_add(value.rise);
     }
     true
 }
 
 // Whether a read's answer is the one for what the key has.
-fn answer_is(answer: ReadAnswer, held: Held) -> bool
+fn answer_is(answer: Result<Present, Refusal>, held: Held) -> bool
     ensures { result ≡ read_says answer held }
 {
     let value = held.value;
     let has = held.version;
     match answer {
-        ReadAnswer::Present { version, kind } => {
-            version.0 == has.0 && kind == object_kind(Edition::First, value.length)
+        Ok(present) => {
+            present.version.0 == has.0 && present.kind == object_kind(Edition::First, value.length)
         }
-        ReadAnswer::Refused(cause) => has.0 == 0 && record::number(cause) == 8,
+        Err(cause) => has.0 == 0 && record::number(cause) == 8,
     }
 }
 
@@ -47,10 +46,7 @@ fn answer_is(answer: ReadAnswer, held: Held) -> bool
 fn reads_as(rec: Record, area: &[u8], index: &[u32], number: usize, held: Held) -> bool {
     let key = book::key(number);
     let value = held.value;
-    let tables = Tables {
-        first: 0,
-        last: 65535,
-    };
+    let tables = memory::ALL_TABLES;
     if !bytes_are(read_value(rec, area, index, tables, key), value) {
         return false;
     }
@@ -67,19 +63,17 @@ pub fn agrees(rec: Record, area: &[u8], index: &[u32], book: Book) -> bool {
     if next.0 != due.0 {
         return false;
     }
-    let mut i = 0;
-    while i < book::KEYS {
-        if !reads_as(rec, area, index, i, held[i]) {
+    for (number, has) in held.iter().enumerate() {
+        if !reads_as(rec, area, index, number, *has) {
             return false;
         }
-        i += 1;
     }
     true
 }
 
 // Whether recovery of what a cut leaves, with an index of its own and the slots in another order, gives the book.
 fn cut_agrees(area: &[u8], book: Book) -> bool {
-    let mut index = [0xdead_beef; 16];
+    let mut index = memory::SPOILT;
     let recovery = recover(
         memory::SLOTS,
         memory::SIZE,
@@ -90,15 +84,15 @@ fn cut_agrees(area: &[u8], book: Book) -> bool {
     let answer = recovery.answer;
     let rec = recovery.rec;
     match answer {
-        RecoverAnswer::Recovered => agrees(rec, area, &index, book),
-        RecoverAnswer::Refused(_) => false,
+        Ok(()) => agrees(rec, area, &index, book),
+        Err(_) => false,
     }
 }
 
 // Whether the reads with the record as it is, and those after a cut, are the book's.
-pub fn both_agree(rec: Record, area: &[u8], index: &[u32], book: Book) -> bool {
-    if !agrees(rec, area, index, book) {
+pub fn both_agree(rec: Record, lent: &Memory, book: Book) -> bool {
+    if !agrees(rec, &lent.area, &lent.index, book) {
         return false;
     }
-    cut_agrees(area, book)
+    cut_agrees(&lent.area, book)
 }

@@ -21,19 +21,6 @@ const LOWEST_IS_ONE: u32 = 150;
 
 const HIGHEST_IS_ONE: u32 = 127;
 
-#[derive(Clone, Copy)]
-pub enum Answer {
-    Converted,
-    Refused(Refusal),
-}
-
-// The answer, and the eight bytes: all 0 where it is a refusal.
-#[derive(Clone, Copy)]
-pub struct Conversion {
-    pub answer: Answer,
-    pub value: [u8; 8],
-}
-
 // Whether a float has no digit behind the point. The digits of its significand below 1 are tested by their remainder.
 fn is_whole(bits: u32) -> bool
     requires { bits ≤ 1283457024 }
@@ -95,73 +82,56 @@ fn float_of(count: u32) -> u32
     f32::to_bits(wide as f32)
 }
 
-fn refused(cause: Refusal) -> Conversion
-    ensures { result ≡ outcome (some cause) [] }
-{
-    Conversion {
-        answer: Answer::Refused(cause),
-        value: [0; 8],
-    }
-}
-
 // The value with another position, its free bytes kept.
-fn with_position(value: &[u8], position: u32) -> Conversion
+fn with_position(value: &[u8], position: u32) -> [u8; 8]
     requires { length value.now ≡ 8 }
-    ensures { result ≡ outcome none (with_position position value.now) }
+    ensures { result ≡ with_position position value.now }
 {
-    let bytes = [
-        (position % 256) as u8,
-        (position / 256 % 256) as u8,
-        (position / 65536 % 256) as u8,
-        (position / 16777216 % 256) as u8,
-        value[4],
-        value[5],
-        value[6],
-        value[7],
-    ];
-    Conversion {
-        answer: Answer::Converted,
-        value: bytes,
-    }
+    let [a, b, c, d] = position.to_le_bytes();
+    [a, b, c, d, value[4], value[5], value[6], value[7]]
 }
 
 // From float: the position's bits as a float become a count.
-pub fn from_float(value: &[u8]) -> Conversion
+pub fn from_float(value: &[u8]) -> Result<[u8; 8], Refusal>
     ensures { result ≡ from_float value.now }
 {
     if value.len() != 8 {
-        return refused(Refusal::ValueLength);
+        return Err(Refusal::ValueLength);
     }
     let bits = read32(value, 0);
     if !is_count(bits) {
-        return refused(Refusal::NotWhole);
+        return Err(Refusal::NotWhole);
     }
-    with_position(value, count_in(bits))
+    Ok(with_position(value, count_in(bits)))
 }
 
 // To float: the position's count becomes the bits of a float.
-pub fn to_float(value: &[u8]) -> Conversion
+pub fn to_float(value: &[u8]) -> Result<[u8; 8], Refusal>
     ensures { result ≡ to_float value.now }
 {
     if value.len() != 8 {
-        return refused(Refusal::ValueLength);
+        return Err(Refusal::ValueLength);
     }
     let count = read32(value, 0);
     if !is_held(count) {
-        return refused(Refusal::CountLost);
+        return Err(Refusal::CountLost);
     }
-    with_position(value, float_of(count))
+    Ok(with_position(value, float_of(count)))
 }
 
-// A conversion handed to a caller in C or Rust: the number of its answer, 0 where it is accepted, and its eight bytes.
-pub fn hand_over(made: Conversion, converted: &mut [u8; 8]) -> u32
+// A conversion handed to a caller in C or Rust: the number of its answer, 0 where it is accepted, and its eight bytes, all 0 where it is
+// refused.
+pub fn hand_over(made: Result<[u8; 8], Refusal>, converted: &mut [u8; 8]) -> u32
     ensures { ConversionCrossed made converted.new result }
 {
-    let bytes = made.value;
-    *converted = bytes;
-    let answer = made.answer;
-    match answer {
-        Answer::Converted => 0,
-        Answer::Refused(cause) => number(cause),
+    match made {
+        Ok(bytes) => {
+            *converted = bytes;
+            0
+        }
+        Err(cause) => {
+            *converted = [0; 8];
+            number(cause)
+        }
     }
 }

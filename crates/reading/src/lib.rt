@@ -12,6 +12,7 @@ pub fn read_full(rt: &impl Input, buffer: &mut [u8]) -> io::Result<usize>
 {
     let mut reader = rt.reader();
     let mut done = 0;
+    // A `while`: the turn goes on by what a read gives, not by 1.
     while done < buffer.len() {
         let n = reader.read(&mut buffer[done..])?;
         if n == 0 {

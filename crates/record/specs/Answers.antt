@@ -1,19 +1,13 @@
 -- What each answer says in 01's terms: the refusal's number, or the values that the call gives. 0 is no refusal's number.
-use Rattle.std.specs.Prelude.{ℕ, Bool, false, List, [], ◌∷◌, replicate}
+use Rattle.std.specs.Prelude.{ℕ, Bool, false, List, [], ◌∷◌, replicate, Ok, Err}
 use Rattle.std.proofs.Math.Option.{Option, none, some}
 use Rattle.segment.specs.Layout.{edition1}
 use Rattle.record.specs.Refusals.{number_of_refusal}
 use Rattle.record.specs.declared.Refusal.{Refusal}
 use Rattle.record.specs.declared.Pending.{Pending}
 use Rattle.record.specs.declared.Pending.TheVariants.{Idle, Append, NewHead, Clean, Forget}
-use Rattle.record.specs.declared.FormatAnswer.{FormatAnswer}
-use Rattle.record.specs.declared.RecoverAnswer.{RecoverAnswer}
-use Rattle.record.specs.declared.ReadAnswer.{ReadAnswer}
-use Rattle.record.specs.declared.StartAnswer.{StartAnswer}
-use Rattle.record.specs.declared.StepAnswer.{StepAnswer}
-use Rattle.record.specs.declared.FewestAnswer.{FewestAnswer}
-use Rattle.record.specs.declared.TellAnswer.{TellAnswer}
-use Rattle.record.specs.declared.ConvertAnswer.{ConvertAnswer}
+use Rattle.record.specs.Answered.{FormatAnswer, RecoverAnswer, ReadAnswer, StartAnswer, StepAnswer, FewestAnswer, TellAnswer, ConvertAnswer}
+use Rattle.record.specs.declared.Progress.{Progress}
 use Rattle.record.specs.declared.Record.{Record}
 
 -- What an answer says: the number of the refusal, or 0 with the call's values.
@@ -46,47 +40,47 @@ told_by (some c) t = []
 
 -- accepted or its number
 abbrev pub format_said : FormatAnswer → Said
-format_said FormatAnswer.Formatted = taken
-format_said (FormatAnswer.Refused r) = refusal (number_of_refusal r)
+format_said (Ok u) = taken
+format_said (Err r) = refusal (number_of_refusal r)
 
 abbrev pub recover_said : RecoverAnswer → Said
-recover_said RecoverAnswer.Recovered = taken
-recover_said (RecoverAnswer.Refused r) = refusal (number_of_refusal r)
+recover_said (Ok u) = taken
+recover_said (Err r) = refusal (number_of_refusal r)
 
 -- version and kind of the object
 abbrev pub read_said : ReadAnswer → Said
-read_said (ReadAnswer.Present v k) = record { refused = 0; stores = 0; version = v.0; kind = k }
-read_said (ReadAnswer.Refused r) = refusal (number_of_refusal r)
+read_said (Ok s) = record { refused = 0; stores = 0; version = s.version.0; kind = s.kind }
+read_said (Err r) = refusal (number_of_refusal r)
 
 -- the number of stores to come
 abbrev pub start_said : StartAnswer → Said
-start_said (StartAnswer.Started k) = taken_with k
-start_said (StartAnswer.Refused r) = refusal (number_of_refusal r)
+start_said (Ok k) = taken_with k
+start_said (Err r) = refusal (number_of_refusal r)
 
 -- the number of stores left; at the last step 0, and the version
 abbrev pub step_said : StepAnswer → Said
-step_said (StepAnswer.Left k) = taken_with k
-step_said (StepAnswer.Done v) = record { refused = 0; stores = 0; version = v.0; kind = 0 }
-step_said (StepAnswer.Refused r) = refusal (number_of_refusal r)
+step_said (Ok (Progress.Left k)) = taken_with k
+step_said (Ok (Progress.Done v)) = record { refused = 0; stores = 0; version = v.0; kind = 0 }
+step_said (Err r) = refusal (number_of_refusal r)
 
 -- the slot is told
 abbrev pub fewest_said : FewestAnswer → Said
-fewest_said (FewestAnswer.Slot i) = taken
-fewest_said (FewestAnswer.Refused r) = refusal (number_of_refusal r)
+fewest_said (Ok i) = taken
+fewest_said (Err r) = refusal (number_of_refusal r)
 
 abbrev pub fewest_told : FewestAnswer → List ℕ
-fewest_told (FewestAnswer.Slot i) = i ∷ []
-fewest_told (FewestAnswer.Refused r) = []
+fewest_told (Ok i) = i ∷ []
+fewest_told (Err r) = []
 
 -- accepted or its number; the store that is told stands beside
 abbrev pub tell_said : TellAnswer → Said
-tell_said (TellAnswer.At place byte) = taken
-tell_said (TellAnswer.Refused r) = refusal (number_of_refusal r)
+tell_said (Ok s) = taken
+tell_said (Err r) = refusal (number_of_refusal r)
 
 -- accepted or its number; what it writes stands in the second buffer
 abbrev pub convert_said : ConvertAnswer → Said
-convert_said ConvertAnswer.Converted = taken
-convert_said (ConvertAnswer.Refused r) = refusal (number_of_refusal r)
+convert_said (Ok u) = taken
+convert_said (Err r) = refusal (number_of_refusal r)
 
 -- how many stores a pending operation has left; 0 where none is pending
 abbrev pub stores_left : Pending → ℕ

@@ -1,5 +1,5 @@
 -- 02, R-13: a store that is switched to the second edition, so that each new head is of that edition.
-use Rattle.std.specs.Prelude.{◌≡◌, refl, Bool, true, false}
+use Rattle.std.specs.Prelude.{◌≡◌, refl, Bool, true, false, Ok, Err}
 use Rattle.std.proofs.Common.{◌∙◌, ap}
 use Rattle.segment.specs.Choice.{pick, either}
 use Rattle.segment.specs.Layout.{Layout, edition1, edition2, same_layout}
@@ -8,7 +8,7 @@ use Rattle.record.specs.Refusals.{number_of_refusal}
 use Rattle.record.specs.declared.Pending.TheVariants.{Idle}
 use Rattle.record.specs.declared.Record.{Record}
 use Rattle.record.specs.declared.Refusal.{Refusal}
-use Rattle.record.specs.declared.SwitchAnswer.{SwitchAnswer}
+use Rattle.record.specs.Answered.{SwitchAnswer}
 
 -- The edition of the next new head: the second once the store is switched, else that of the head.
 abbrev pub new_layout : Record → Layout
@@ -82,5 +82,5 @@ as_recovered r =
 
 -- accepted or its number
 abbrev pub switch_said : SwitchAnswer → Said
-switch_said SwitchAnswer.Switched = taken
-switch_said (SwitchAnswer.Refused r) = refusal (number_of_refusal r)
+switch_said (Ok u) = taken
+switch_said (Err r) = refusal (number_of_refusal r)

@@ -79,7 +79,7 @@ pub struct Commit {
 // The causes of 01's table "Refused calls", in the order of their numbers, and those that 02 adds to it.
 #[derive(Clone, Copy)]
 pub enum Refusal {
-    Geometry,
+    Geometry = 1,
     Cells,
     WorkShort,
     BadRecord,
@@ -119,166 +119,74 @@ pub struct Tables {
     pub last: u16,
 }
 
-// What a write expects of its key (02, R-1): nothing, or the version that the key has, 0 where it is absent.
+// What a write expects of its key (02, R-1): nothing, or the version that the key has, 0 where it is absent. No Option, whose None would
+// read as a key that is to be absent.
 #[derive(Clone, Copy)]
 pub enum Expected {
     Any,
     Only(Version),
 }
 
+// What a call hands back: its answer or the cause that refuses it, and the record, which is to be kept for the next call.
 #[derive(Clone, Copy)]
-pub enum FormatAnswer {
-    Formatted,
-    Refused(Refusal),
-}
-
-#[derive(Clone, Copy)]
-pub enum RecoverAnswer {
-    Recovered,
-    Refused(Refusal),
+pub struct Answered<T> {
+    pub answer: Result<T, Refusal>,
+    pub rec: Record,
 }
 
 // Where recovery is refused, `rec` is the blank record.
+pub type Recovery = Answered<()>;
+
+// A read answers the version and the kind of the key's object.
 #[derive(Clone, Copy)]
-pub struct Recovery {
-    pub answer: RecoverAnswer,
-    pub rec: Record,
+pub struct Present {
+    pub version: Version,
+    pub kind: u8,
 }
 
-#[derive(Clone, Copy)]
-pub enum ReadAnswer {
-    Present { version: Version, kind: u8 },
-    Refused(Refusal),
-}
-
-#[derive(Clone, Copy)]
-pub struct Reading {
-    pub answer: ReadAnswer,
-    pub rec: Record,
-}
+pub type Reading = Answered<Present>;
 
 // A start answers the number of stores to come.
-#[derive(Clone, Copy)]
-pub enum StartAnswer {
-    Started(u32),
-    Refused(Refusal),
-}
-
-#[derive(Clone, Copy)]
-pub struct Start {
-    pub answer: StartAnswer,
-    pub rec: Record,
-}
+pub type Start = Answered<u32>;
 
 // A step answers the number of stores left; the last one the version, 0 for a cleaning.
 #[derive(Clone, Copy)]
-pub enum StepAnswer {
+pub enum Progress {
     Left(u32),
     Done(Version),
-    Refused(Refusal),
 }
 
-#[derive(Clone, Copy)]
-pub struct Stepped {
-    pub answer: StepAnswer,
-    pub rec: Record,
-}
+pub type Stepped = Answered<Progress>;
 
 // The slot of the log that has the fewest present bytes (02, R-5).
-#[derive(Clone, Copy)]
-pub enum FewestAnswer {
-    Slot(u32),
-    Refused(Refusal),
-}
-
-#[derive(Clone, Copy)]
-pub struct Fewest {
-    pub answer: FewestAnswer,
-    pub rec: Record,
-}
+pub type Fewest = Answered<u32>;
 
 // The store that the next step will make, told before it: its place in the area, and its byte.
 #[derive(Clone, Copy)]
-pub enum TellAnswer {
-    At { place: u32, byte: u8 },
-    Refused(Refusal),
+pub struct ToldStore {
+    pub place: u32,
+    pub byte: u8,
 }
 
-#[derive(Clone, Copy)]
-pub struct Foretold {
-    pub answer: TellAnswer,
-    pub rec: Record,
-}
+pub type Foretold = Answered<ToldStore>;
 
 // Two log slots that one new head can take over (02, R-7), the lower one first.
 #[derive(Clone, Copy)]
-pub enum JoinAnswer {
-    Pair { first: u32, second: u32 },
-    Refused(Refusal),
+pub struct Pair {
+    pub first: u32,
+    pub second: u32,
 }
 
-#[derive(Clone, Copy)]
-pub struct Joined {
-    pub answer: JoinAnswer,
-    pub rec: Record,
-}
+pub type Joined = Answered<Pair>;
 
 // The switch to the second edition (02, R-13).
-#[derive(Clone, Copy)]
-pub enum SwitchAnswer {
-    Switched,
-    Refused(Refusal),
-}
-
-#[derive(Clone, Copy)]
-pub struct Switching {
-    pub answer: SwitchAnswer,
-    pub rec: Record,
-}
-
-// An image in the other edition (02, R-12).
-#[derive(Clone, Copy)]
-pub enum ConvertAnswer {
-    Converted,
-    Refused(Refusal),
-}
+pub type Switching = Answered<()>;
 
 // The number of a cause.
 pub fn number(r: Refusal) -> u32
     ensures { result ≡ number_of_refusal r }
 {
-    match r {
-        Refusal::Geometry => 1,
-        Refusal::Cells => 2,
-        Refusal::WorkShort => 3,
-        Refusal::BadRecord => 4,
-        Refusal::Busy => 5,
-        Refusal::NonePending => 6,
-        Refusal::ValueLength => 7,
-        Refusal::Absent => 8,
-        Refusal::VersionsSpent => 9,
-        Refusal::NumbersSpent => 10,
-        Refusal::KeysFull => 11,
-        Refusal::NoRoom => 12,
-        Refusal::BadVictims => 13,
-        Refusal::KeptTooLong => 14,
-        Refusal::BadOrder => 15,
-        Refusal::NoDigest => 16,
-        Refusal::BadDigest => 17,
-        Refusal::DamagedLog => 18,
-        Refusal::SharedVersion => 19,
-        Refusal::TooManyKeys => 20,
-        Refusal::OtherVersion => 21,
-        Refusal::OutsideTables => 22,
-        Refusal::NoPair => 23,
-        Refusal::BadMap => 24,
-        Refusal::MapNoDigest => 25,
-        Refusal::NotWhole => 26,
-        Refusal::CountLost => 27,
-        Refusal::MixedEditions => 28,
-        Refusal::SlotTooLong => 29,
-        Refusal::VersionTooWide => 30,
-    }
+    r as u32
 }
 
 // How many stores an operation has left; 0 where none is pending.
@@ -287,24 +195,10 @@ pub fn stores_left(p: Pending) -> u32
 {
     match p {
         Pending::Idle => 0,
-        Pending::Append { length: _, left } => left,
-        Pending::NewHead {
-            slot: _,
-            length: _,
-            left,
-        } => left,
-        Pending::Clean {
-            slot: _,
-            victims: _,
-            length: _,
-            left,
-        } => left,
-        Pending::Forget {
-            slot: _,
-            victims: _,
-            length: _,
-            left,
-        } => left,
+        Pending::Append { left, .. } => left,
+        Pending::NewHead { left, .. } => left,
+        Pending::Clean { left, .. } => left,
+        Pending::Forget { left, .. } => left,
     }
 }
 
@@ -312,45 +206,24 @@ pub fn stores_left(p: Pending) -> u32
 pub fn new_edition(rec: Record) -> Edition
     ensures { result ≡ new_layout rec }
 {
-    let edition = rec.edition;
     if rec.switched {
         return Edition::Second;
     }
-    edition
+    rec.edition
 }
 
 // The record with its switch set or not.
 fn with_switch(rec: Record, switched: bool) -> Record
     ensures { result ≡ with_switch rec switched }
 {
-    let edition = rec.edition;
-    let number = rec.digest;
-    let next = rec.next;
-    let counts = rec.counts;
-    let pending = rec.pending;
-    Record {
-        slots: rec.slots,
-        size: rec.size,
-        cells: rec.cells,
-        edition,
-        switched: switched,
-        head: rec.head,
-        end: rec.end,
-        digest: number,
-        map: rec.map,
-        next: next,
-        keys: rec.keys,
-        counts,
-        pending,
-    }
+    Record { switched, ..rec }
 }
 
 // The record of a store that goes on in the second edition. Where it does so already nothing changes.
 pub fn switched_on(rec: Record) -> Record
     ensures { result ≡ switched_on rec }
 {
-    let edition = rec.edition;
-    match edition {
+    match rec.edition {
         Edition::First => with_switch(rec, true),
         Edition::Second => rec,
     }
@@ -360,48 +233,24 @@ pub fn switched_on(rec: Record) -> Record
 pub fn with_pending(rec: Record, p: Pending) -> Record
     ensures { result ≡ with_pending rec p }
 {
-    let edition = rec.edition;
-    let number = rec.digest;
-    let next = rec.next;
-    let counts = rec.counts;
-    Record {
-        slots: rec.slots,
-        size: rec.size,
-        cells: rec.cells,
-        edition,
-        switched: rec.switched,
-        head: rec.head,
-        end: rec.end,
-        digest: number,
-        map: rec.map,
-        next: next,
-        keys: rec.keys,
-        counts,
-        pending: p,
-    }
+    Record { pending: p, ..rec }
 }
 
 // The record once the pending operation counts: nothing is pending, and what no operation changes stays.
 pub fn committed(rec: Record, done: Commit, keys: u32, counts: [u32; 32]) -> Record
     ensures { result ≡ committed rec done keys counts }
 {
-    let edition = done.edition;
-    let number = done.digest;
-    let next = done.next;
     Record {
-        slots: rec.slots,
-        size: rec.size,
-        cells: rec.cells,
-        edition,
-        switched: rec.switched,
+        edition: done.edition,
         head: done.head,
         end: done.end,
-        digest: number,
+        digest: done.digest,
         map: done.map,
-        next: next,
-        keys: keys,
+        next: done.next,
+        keys,
         counts,
         pending: Pending::Idle,
+        ..rec
     }
 }
 

@@ -109,10 +109,8 @@ pub fn counts_good(counts: &[u32], limit: u32) -> bool
     ensures { result ≡ counts_good limit counts.now }
 {
     let mut good = true;
-    let mut i = 0;
-    while i < counts.len() {
-        good = still_good(good, counts[i], limit);
-        i += 1;
+    for count in counts {
+        good = still_good(good, *count, limit);
     }
     good
 }

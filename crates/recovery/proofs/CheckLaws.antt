@@ -1,5 +1,5 @@
 -- Laws of: The tests of recovery at each return of the code.
-use Rattle.std.specs.Prelude.{ℕ, ◌+◌, ◌*◌, ◌≤◌, ◌<◌, max, ◌≡◌, Bool, true, length}
+use Rattle.std.specs.Prelude.{ℕ, ◌+◌, ◌*◌, ◌≤◌, ◌<◌, max, ◌≡◌, Bool, true, length, Ok, Err}
 use Rattle.std.proofs.Math.Path.{refl, ap}
 use Rattle.std.proofs.Common.{sym, ◌∙◌, arith}
 use Rattle.std.proofs.Math.Bool.{false, not}
@@ -19,9 +19,8 @@ use Rattle.model.specs.Recovery.{geometry_bad, order_bad, head_else, map_bad, na
 use Rattle.laws.specs.CauseLaws.{NoCause, no-cause, cause-first, cause-skip, cause-none, first_some, first-none}
 use Rattle.laws.specs.Scans.{scan-scans, scans-high}
 use Rattle.laws.specs.Stores.{length-segment}
-use Rattle.recovery.specs.Recovering.{lent_first, checked_as, editions_bad, image_checks, image_for, image_of, image_under}
-use Rattle.recovery.specs.declared.Checked.{Checked}
-use Rattle.recovery.specs.declared.Image.{Image}
+use Rattle.recovery.specs.Recovering.{lent_first, checked_as, editions_bad, image_checks, image_for, image_of, image_under, ImageFound}
+use Rattle.record.specs.Answered.{Check}
 
 -- ---- what is lent
 
@@ -35,12 +34,12 @@ module _ (n s m area_length : ℕ) (order : List ℕ) where
   abbrev slots : Cause
   slots = when (order_bad n order) BadOrder
 
-  pub lent-geometry : geometry_bad n s area_length ≡ true → Checked.Refused Geometry ≡ checked_as (lent_first n s m area_length order)
+  pub lent-geometry : geometry_bad n s area_length ≡ true → Err Geometry ≡ checked_as (lent_first n s m area_length order)
   unfolding checked_as
   lent-geometry e = ap checked_as (sym (cause-first geometry (cells ∷ slots ∷ []) e))
 
   module _ (g : geometry_bad n s area_length ≡ false) where
-    pub lent-cells : cells_good m ≡ false → Checked.Refused Cells ≡ checked_as (lent_first n s m area_length order)
+    pub lent-cells : cells_good m ≡ false → Err Cells ≡ checked_as (lent_first n s m area_length order)
     unfolding checked_as
     lent-cells e = ap checked_as (sym (cause-skip geometry (cells ∷ slots ∷ []) g ∙ cause-first cells (slots ∷ []) (ap not e)))
 
@@ -48,20 +47,20 @@ module _ (n s m area_length : ℕ) (order : List ℕ) where
       passes : lent_first n s m area_length order ≡ first_cause (slots ∷ [])
       passes = cause-skip geometry (cells ∷ slots ∷ []) g ∙ cause-skip cells (slots ∷ []) (ap not c)
 
-      pub lent-order : order_bad n order ≡ true → Checked.Refused BadOrder ≡ checked_as (lent_first n s m area_length order)
+      pub lent-order : order_bad n order ≡ true → Err BadOrder ≡ checked_as (lent_first n s m area_length order)
       unfolding checked_as
       lent-order e = ap checked_as (sym (passes ∙ cause-first slots [] e))
 
-      pub lent-passed : order_bad n order ≡ false → Checked.Passed ≡ checked_as (lent_first n s m area_length order)
+      pub lent-passed : order_bad n order ≡ false → (Ok tt) ≡ checked_as (lent_first n s m area_length order)
       unfolding checked_as first_cause
       lent-passed e = ap checked_as (sym (passes ∙ cause-none slots [] e refl))
 
-pub check-refused : (o : Option Refusal) (c : Refusal) → checked_as o ≡ Checked.Refused c → o ≡ some c
+pub check-refused : (o : Option Refusal) (c : Refusal) → checked_as o ≡ Err c → o ≡ some c
 unfolding checked_as
 check-refused none c e = let z : ◌≡◌ {A = ℕ} 0 1 = cc in absurd (omega arith)
 check-refused (some d) c e = cc
 
-pub check-passed : (o : Option Refusal) → checked_as o ≡ Checked.Passed → o ≡ none
+pub check-passed : (o : Option Refusal) → checked_as o ≡ (Ok tt) → o ≡ none
 unfolding checked_as
 check-passed none e = refl
 check-passed (some d) e = let z : ◌≡◌ {A = ℕ} 0 1 = cc in absurd (omega arith)
@@ -89,12 +88,12 @@ module _ (v : ℕ → View) (n : ℕ) (h : Head) {t : Bool} (e : t ≡ digest_ba
   abbrev digests : Cause
   digests = when (names_no_digest v (log_slots h) n) MapNoDigest
 
-  pub digest-counters : t ≡ true → Checked.Refused BadDigest ≡ checked_as (first_cause (digest_causes v n h))
+  pub digest-counters : t ≡ true → Err BadDigest ≡ checked_as (first_cause (digest_causes v n h))
   unfolding checked_as
   digest-counters f = ap checked_as (sym (cause-first counters (within ∷ digests ∷ []) (sym e ∙ f)))
 
   module _ (f : t ≡ false) {u : Bool} (g : u ≡ map_good n h.slot h.digest.map) where
-    pub digest-map : not u ≡ true → Checked.Refused BadMap ≡ checked_as (first_cause (digest_causes v n h))
+    pub digest-map : not u ≡ true → Err BadMap ≡ checked_as (first_cause (digest_causes v n h))
     unfolding checked_as
     digest-map j =
         ap checked_as
@@ -104,11 +103,11 @@ module _ (v : ℕ → View) (n : ℕ) (h : Head) {t : Bool} (e : t ≡ digest_ba
       third : first_cause (digest_causes v n h) ≡ first_cause (digests ∷ [])
       third = cause-skip counters (within ∷ digests ∷ []) (sym e ∙ f) ∙ cause-skip within (digests ∷ []) (ap not (sym g) ∙ j)
 
-      pub digest-named : w ≡ true → Checked.Refused MapNoDigest ≡ checked_as (first_cause (digest_causes v n h))
+      pub digest-named : w ≡ true → Err MapNoDigest ≡ checked_as (first_cause (digest_causes v n h))
       unfolding checked_as
       digest-named l = ap checked_as (sym (third ∙ cause-first digests [] (sym k ∙ l)))
 
-      pub digest-passed : w ≡ false → Checked.Passed ≡ checked_as (first_cause (digest_causes v n h))
+      pub digest-passed : w ≡ false → (Ok tt) ≡ checked_as (first_cause (digest_causes v n h))
       unfolding checked_as first_cause
       digest-passed l = ap checked_as (sym (third ∙ cause-none digests [] (sym k ∙ l) refl))
 
@@ -121,7 +120,7 @@ head-below v n h e =
 -- ---- the image, where the whole log is to be of one edition or not
 
 module _ (single : Bool) (v : ℕ → View) (n : ℕ) where
-  pub head-none : head_of v n ≡ none → Image.Refused NoDigest ≡ image_of single v n
+  pub head-none : head_of v n ≡ none → Err NoDigest ≡ image_of single v n
   unfolding image_for is_none
   head-none e =
       ap (λ (o : Option Refusal). image_for v n (head_else (head_of v n)) o)
@@ -150,7 +149,7 @@ module _ (single : Bool) (v : ℕ → View) (n : ℕ) where
     has-head = cause-skip (when false NoDigest) (digest_causes v n h ++ (mixed ∷ damage ∷ shared ∷ [])) refl
 
     -- the digest's own causes come first
-    pub head-digest : (c : Refusal) → first_cause (digest_causes v n h) ≡ some c → Image.Refused c ≡ image_under single v n h
+    pub head-digest : (c : Refusal) → first_cause (digest_causes v n h) ≡ some c → Err c ≡ image_under single v n h
     unfolding image_for
     head-digest c e = ap (image_for v n h) (sym (has-head ∙ first_some (digest_causes v n h) (mixed ∷ damage ∷ shared ∷ []) c e))
 
@@ -162,7 +161,7 @@ module _ (single : Bool) (v : ℕ → View) (n : ℕ) where
       tested : editions_bad single its v (log_slots h) n ≡ editions_bad single L v (log_slots h) n
       tested = ap (λ (K : Layout). editions_bad single K v (log_slots h) n) (sym of)
 
-      pub head-mixed : editions_bad single L v (log_slots h) n ≡ true → Image.Refused MixedEditions ≡ image_under single v n h
+      pub head-mixed : editions_bad single L v (log_slots h) n ≡ true → Err MixedEditions ≡ image_under single v n h
       unfolding image_for
       head-mixed e = ap (image_for v n h) (sym (behind ∙ cause-first mixed (damage ∷ shared ∷ []) (tested ∙ e)))
 
@@ -170,7 +169,7 @@ module _ (single : Bool) (v : ℕ → View) (n : ℕ) where
         on-damage : first_cause (image_checks single its v n (some h)) ≡ first_cause (damage ∷ shared ∷ [])
         on-damage = behind ∙ cause-skip mixed (damage ∷ shared ∷ []) (tested ∙ o)
 
-        pub head-damaged : log_damaged v (log_slots h) n ≡ true → Image.Refused DamagedLog ≡ image_under single v n h
+        pub head-damaged : log_damaged v (log_slots h) n ≡ true → Err DamagedLog ≡ image_under single v n h
         unfolding image_for
         head-damaged e = ap (image_for v n h) (sym (on-damage ∙ cause-first damage (shared ∷ []) e))
 
@@ -178,15 +177,15 @@ module _ (single : Bool) (v : ℕ → View) (n : ℕ) where
           last : first_cause (image_checks single its v n (some h)) ≡ first_cause (shared ∷ [])
           last = on-damage ∙ cause-skip damage (shared ∷ []) u
 
-          pub head-shared : version_shared (log_under v n h) ≡ true → Image.Refused SharedVersion ≡ image_under single v n h
+          pub head-shared : version_shared (log_under v n h) ≡ true → Err SharedVersion ≡ image_under single v n h
           unfolding image_for
           head-shared e = ap (image_for v n h) (sym (last ∙ cause-first shared [] e))
 
           pub head-sound : (top : Version) → top ≡ record { 0 = highest (log_under v n h) } → version_shared (log_under v n h) ≡ false
-              → Image.Sound L h.slot h.digest top ≡ image_under single v n h
+              → Ok (record { edition = L; slot = h.slot; digest = h.digest; highest = top }) ≡ image_under single v n h
           unfolding image_for first_cause
           head-sound top e f =
-              (λ i. Image.Sound (of i) h.slot h.digest (e i)) ∙ ap (image_for v n h) (sym (last ∙ cause-none shared [] f refl))
+              (λ i. Ok (record { edition = (of i); slot = h.slot; digest = h.digest; highest = (e i) })) ∙ ap (image_for v n h) (sym (last ∙ cause-none shared [] f refl))
 
 -- ---- the record
 

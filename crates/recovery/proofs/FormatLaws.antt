@@ -1,5 +1,5 @@
 -- Laws of: Format as its code does it: byte 0 of every slot in turn, the digest, and the 0 behind it.
-use Rattle.std.specs.Prelude.{ℕ, ◌+◌, ◌*◌, ◌≤◌, ◌<◌, ◌≡◌, Bool, not, eqb, length, set}
+use Rattle.std.specs.Prelude.{ℕ, ◌+◌, ◌*◌, ◌≤◌, ◌<◌, ◌≡◌, Bool, not, eqb, length, set, Ok, Err}
 use Rattle.std.proofs.Math.Path.{refl, ap}
 use Rattle.std.proofs.Common.{sym, ◌∙◌, add-one, arith, eqb-true, ne_eqb}
 use Rattle.std.proofs.Math.Bool.{true, false}
@@ -16,7 +16,7 @@ use Rattle.segment.specs.Digest.{encoded_digest}
 use Rattle.segment.proofs.DigestLaws.{length-encoded_digest}
 use Rattle.record.specs.Answers.{format_said}
 use Rattle.record.specs.Range.{slots_good, size_good}
-use Rattle.record.specs.declared.FormatAnswer.{FormatAnswer}
+use Rattle.record.specs.Answered.{FormatAnswer}
 use Rattle.record.specs.declared.Refusal.TheVariants.{Geometry}
 use Rattle.model.specs.Operations.{cleared, first_digest, formatted, formatted_as}
 use Rattle.model.specs.Causes.{first_cause}
@@ -66,20 +66,20 @@ none-numbered e one two =
     ∙ pick-false (eqb e 2) (some edition2) none (ne_eqb e 2 two)
 
 module _ (e n S : ℕ) (area : List ℕ) where
-  refused-at : either (geometry_bad n S (length area)) (is_none (layout_numbered e)) ≡ true → FormatPromise e n S area area (FormatAnswer.Refused Geometry)
+  refused-at : either (geometry_bad n S (length area)) (is_none (layout_numbered e)) ≡ true → FormatPromise e n S area area (Err Geometry)
   unfolding format_answer area_unless
   refused-at bad =
       let first = cause-first (record { holds = either (geometry_bad n S (length area)) (is_none (layout_numbered e)); refusal = Geometry }) [] bad in
       record { answers = rw first; says = ap format_said answered ∙ format-says _; leaves = rw first }
     where
-      answered : FormatAnswer.Refused Geometry ≡ format_answer (first_cause (format_causes e n S (length area)))
+      answered : Err Geometry ≡ format_answer (first_cause (format_causes e n S (length area)))
       answered = rw (cause-first (record { holds = either (geometry_bad n S (length area)) (is_none (layout_numbered e)); refusal = Geometry }) [] bad)
 
-  pub format-refused : geometry_bad n S (length area) ≡ true → FormatPromise e n S area area (FormatAnswer.Refused Geometry)
+  pub format-refused : geometry_bad n S (length area) ≡ true → FormatPromise e n S area area (Err Geometry)
   unfolding either
   format-refused bad = refused-at (rw bad)
 
-  pub format-unknown : (e ≡ 1 → ⊥) → (e ≡ 2 → ⊥) → FormatPromise e n S area area (FormatAnswer.Refused Geometry)
+  pub format-unknown : (e ≡ 1 → ⊥) → (e ≡ 2 → ⊥) → FormatPromise e n S area area (Err Geometry)
   unfolding is_none either
   format-unknown one two = refused-at (rw (none-numbered e one two) (either-last (geometry_bad n S (length area))))
     where
@@ -89,7 +89,7 @@ module _ (e n S : ℕ) (area : List ℕ) where
 
 module _ (L : Layout) (n S : ℕ) (area : List ℕ) where
   pub format-done : (a₁ a₂ a₃ : List ℕ) → geometry_bad n S (length area) ≡ false → a₁ ≡ cleared S n area → a₂ ≡ sets a₁ 0 (encoded_digest L first_digest)
-      → a₃ ≡ set a₂ (digest_size L) 0 → FormatPromise (number_of_layout L) n S area a₃ FormatAnswer.Formatted
+      → a₃ ≡ set a₂ (digest_size L) 0 → FormatPromise (number_of_layout L) n S area a₃ (Ok tt)
   unfolding format_answer area_unless first_cause formatted_as either is_none
   format-done a₁ a₂ a₃ good e₁ e₂ e₃ =
       record { answers = rw nothing; says = ap format_said answered ∙ format-says _; leaves = rw (nothing, numbered-layout L) (whole) }
@@ -101,7 +101,7 @@ module _ (L : Layout) (n S : ℕ) (area : List ℕ) where
       nothing =
           cause-none (record { holds = either (geometry_bad n S (length area)) (is_none (layout_numbered (number_of_layout L))); refusal = Geometry }) [] known refl
 
-      answered : FormatAnswer.Formatted ≡ format_answer (first_cause (format_causes (number_of_layout L) n S (length area)))
+      answered : (Ok tt) ≡ format_answer (first_cause (format_causes (number_of_layout L) n S (length area)))
       answered = rw nothing
 
       behind : digest_size L ≡ 0 + length (encoded_digest L first_digest)

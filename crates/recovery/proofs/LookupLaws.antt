@@ -1,5 +1,5 @@
 -- Laws of: What is looked up on a genuine store is the object that its map has.
-use Rattle.std.specs.Prelude.{ℕ, ◌+◌, ◌*◌, ◌-◌, ◌≤◌, ◌<◌, ◌≡◌, Bool, true, false, not, List, [], ◌∷◌, length, drop}
+use Rattle.std.specs.Prelude.{ℕ, ◌+◌, ◌*◌, ◌-◌, ◌≤◌, ◌<◌, ◌≡◌, Bool, true, false, not, List, [], ◌∷◌, length, drop, Err, Ok}
 use Rattle.std.proofs.Math.Path.{refl, sym, ap, subst⁻¹}
 use Rattle.std.proofs.Common.{◌∙◌, arith, length-take}
 use Rattle.std.proofs.Math.Option.{Option, none, some}
@@ -21,7 +21,7 @@ use Rattle.record.specs.Reach.{holds_table}
 use Rattle.record.specs.RangeLaws.{lent}
 use Rattle.record.specs.Switch.{as_recovered}
 use Rattle.record.specs.declared.Record.{Record}
-use Rattle.record.specs.declared.ReadAnswer.{ReadAnswer}
+use Rattle.record.specs.Answered.{ReadAnswer}
 use Rattle.record.specs.declared.Refusal.{Refusal}
 use Rattle.record.specs.declared.Tables.{Tables}
 use Rattle.model.specs.Log.{Placed, place_of, placed_size, placed_kind, segment_of, views_of, log_of, latest, object_only, present, keys_of}
@@ -44,19 +44,20 @@ use Rattle.index.specs.Finds.{Picks}
 use Rattle.index.proofs.Finds.{search-known, search-new}
 use Rattle.index.proofs.BuildLaws.{log-reads, log-in-area}
 use Rattle.index.specs.declared.Found.{Found as Hit}
-use Rattle.recovery.specs.Lookups.{Reached, lookup_of, lookup_at, looked_up, told_by, part_by}
-use Rattle.recovery.specs.declared.Lookup.{Lookup}
+use Rattle.record.specs.AnswerLaws.{ok-same}
+use Rattle.recovery.specs.declared.Object.{Object}
+use Rattle.recovery.specs.Lookups.{Reached, lookup_of, lookup_at, looked_up, told_by, part_by, Lookup}
 use Rattle.recovery.specs.LookupLaws.{ObjectInside, if_absent, lookup_for}
 
 -- ---- the lookup at each test of the code
 
 module _ (L : Layout) (r : Record) (area cells : List ℕ) (t : Tables) (k : Key) where
-  pub looked-unfit : fits_lent L r (length area) (length cells) ≡ false → looked_up L r area cells t k ≡ Lookup.Bad
+  pub looked-unfit : fits_lent L r (length area) (length cells) ≡ false → looked_up L r area cells t k ≡ Err Refusal.BadRecord
   unfolding looked_up
   looked-unfit e = pick-false (fits_lent L r (length area) (length cells)) _ _ e
 
   pub looked-outside :
-      fits_lent L r (length area) (length cells) ≡ true → holds_table t k.table ≡ false → looked_up L r area cells t k ≡ Lookup.Outside
+      fits_lent L r (length area) (length cells) ≡ true → holds_table t k.table ≡ false → looked_up L r area cells t k ≡ Err Refusal.OutsideTables
   unfolding looked_up
   looked-outside fit out = pick_true (fits_lent L r (length area) (length cells)) _ _ fit ∙ pick-false (holds_table t k.table) _ _ out
 
@@ -65,12 +66,12 @@ module _ (L : Layout) (r : Record) (area cells : List ℕ) (t : Tables) (k : Key
     unfolding looked_up
     looked-fit = pick_true (fits_lent L r (length area) (length cells)) _ _ fit ∙ pick_true (holds_table t k.table) _ _ held
 
-    pub looked-full : search_for area cells k ≡ Hit.Full → looked_up L r area cells t k ≡ Lookup.Bad
+    pub looked-full : search_for area cells k ≡ Hit.Full → looked_up L r area cells t k ≡ Err Refusal.BadRecord
     unfolding lookup_at
     looked-full e = looked-fit ∙ ap (lookup_at area cells) e
 
     module _ (i : ℕ) where
-      pub looked-free : search_for area cells k ≡ Hit.Free i → looked_up L r area cells t k ≡ Lookup.Absent
+      pub looked-free : search_for area cells k ≡ Hit.Free i → looked_up L r area cells t k ≡ Err Refusal.Absent
       unfolding lookup_at
       looked-free e = looked-fit ∙ ap (lookup_at area cells) e
 
@@ -89,19 +90,18 @@ module _ (L : Layout) (r : Record) (area cells : List ℕ) (t : Tables) (k : Key
 -- ---- where an object is found, its entry lies in the area
 
 -- what a lookup of an object says of what stands there
-object-read : (p : ℕ) (a : Read) (q : ℕ) (v : Version) (kind n : ℕ) → lookup_of p a ≡ Lookup.Object q v kind n
+object-read : (p : ℕ) (a : Read) (q : ℕ) (v : Version) (kind n : ℕ) → lookup_of p a ≡ Ok (record { place = q; version = v; kind = kind; length = n })
     → (p ≡ q) × (key : Key) × (a ≡ Read.Object key v kind n)
 unfolding lookup_of
 object-read p (Read.Object key w j m) q v kind n e =
-    let place : p ≡ q = cc in
-    let same : Read.Object key w j m ≡ Read.Object key v kind n = cc in
-    (place, key, same)
+    let s : ◌≡◌ {A = Object} (record { place = p; version = w; kind = j; length = m }) (record { place = q; version = v; kind = kind; length = n }) = ok-same e in
+    (ap (λ (o : Object). o.place) s, key, ap (λ (o : Object). Read.Object key o.version o.kind o.length) s)
 object-read p (Read.Tombstone key w m) q v kind n e = let z : ◌≡◌ {A = ℕ} 0 1 = cc in absurd (omega arith)
 object-read p Read.End q v kind n e = let z : ◌≡◌ {A = ℕ} 0 1 = cc in absurd (omega arith)
 object-read p Read.Damage q v kind n e = let z : ◌≡◌ {A = ℕ} 0 1 = cc in absurd (omega arith)
 
 module _ (L : Layout) (r : Record) (area cells : List ℕ) (t : Tables) (k : Key) (p : ℕ) (v : Version) (kind n : ℕ)
-    (e : looked_up L r area cells t k ≡ Lookup.Object p v kind n) where
+    (e : looked_up L r area cells t k ≡ Ok (record { place = p; version = v; kind = kind; length = n })) where
   at-inside :
       fits_lent L r (length area) (length cells) ≡ true → holds_table t k.table ≡ true → (i : ℕ) → search_for area cells k ≡ Hit.At i →
       ObjectInside (layout_of_kind kind) area p n
@@ -196,7 +196,7 @@ module _ (L : Layout) (r : Record) (area cells : List ℕ) (t : Tables) (k : Key
           let (c, f) = search-new S log cells genuine.rule (cell_has area k) k picks e few in
           looked-free L r area cells t k fit held c.cell (within ∙ f) ∙ sym (ap (λ (o : Option Placed). lookup_for S (object_only o)) e ∙ absent)
         where
-          absent : lookup_for S (object_only none) ≡ Lookup.Absent
+          absent : lookup_for S (object_only none) ≡ Err Refusal.Absent
           absent = unfold lookup_for object_only in refl
       go (some x) e =
           let (c, f) = search-known S log cells genuine.rule (cell_has area k) k picks x e in
@@ -248,8 +248,8 @@ module _ (L : Layout) (r : Record) (area cells : List ℕ) (t : Tables) (k : Key
 
   -- What is looked up beside what the causes say, whatever the record: a first cause, or none and then the object that the map has.
   data Case : Lookup → Option Refusal → Option Refusal → Type 0 where
-    unfit : Case Lookup.Bad (some Refusal.BadRecord) (some Refusal.BadRecord)
-    outside : Case Lookup.Outside (some Refusal.OutsideTables) (some Refusal.OutsideTables)
+    unfit : Case (Err Refusal.BadRecord) (some Refusal.BadRecord) (some Refusal.BadRecord)
+    outside : Case (Err Refusal.OutsideTables) (some Refusal.OutsideTables) (some Refusal.OutsideTables)
     within : (x : Lookup) (c : Option Refusal) → (Genuine L area r cells → (x ≡ lookup_for r.size object) × (c ≡ if_absent object)) → Case x none c
 
   abbrev bad : Cause
@@ -268,13 +268,13 @@ module _ (L : Layout) (r : Record) (area cells : List ℕ) (t : Tables) (k : Key
   looked-case : (x y : Bool) → fits ≡ x → holds_table t k.table ≡ y → Case (looked_up L r area cells t k) early cause
   looked-case false y e h =
       subst⁻¹ (λ (x : Lookup). Case x early cause) (looked-unfit L r area cells t k e)
-      (subst⁻¹ (λ (c : Option Refusal). Case Lookup.Bad c cause) (cause-first bad (out ∷ []) (ap not e))
-      (subst⁻¹ (λ (c : Option Refusal). Case Lookup.Bad (some Refusal.BadRecord) c) (cause-first bad (out ∷ gone ∷ []) (ap not e)) unfit))
+      (subst⁻¹ (λ (c : Option Refusal). Case (Err Refusal.BadRecord) c cause) (cause-first bad (out ∷ []) (ap not e))
+      (subst⁻¹ (λ (c : Option Refusal). Case (Err Refusal.BadRecord) (some Refusal.BadRecord) c) (cause-first bad (out ∷ gone ∷ []) (ap not e)) unfit))
   looked-case true false e h =
       subst⁻¹ (λ (x : Lookup). Case x early cause) (looked-outside L r area cells t k e h)
-      (subst⁻¹ (λ (c : Option Refusal). Case Lookup.Outside c cause)
+      (subst⁻¹ (λ (c : Option Refusal). Case (Err Refusal.OutsideTables) c cause)
       (cause-skip bad (out ∷ []) (ap not e) ∙ cause-first out [] (ap not h))
-      (subst⁻¹ (λ (c : Option Refusal). Case Lookup.Outside (some Refusal.OutsideTables) c)
+      (subst⁻¹ (λ (c : Option Refusal). Case (Err Refusal.OutsideTables) (some Refusal.OutsideTables) c)
       (cause-skip bad (out ∷ gone ∷ []) (ap not e) ∙ cause-first out (gone ∷ []) (ap not h)) outside))
   looked-case true true e h =
       subst⁻¹ (λ (c : Option Refusal). Case (looked_up L r area cells t k) c cause)
@@ -302,9 +302,9 @@ module _ (L : Layout) (r : Record) (area cells : List ℕ) (t : Tables) (k : Key
       told : said ≡ told_by (looked_up L r area cells t k)
       told = its ∙ ap told_by same
 
-      at_first : {x : Lookup} {e d : Option Refusal} → Case x e d → (c : Refusal) → e ≡ some c → told_by x ≡ ReadAnswer.Refused c
-      at_first unfit c q = ap ReadAnswer.Refused (some_is q)
-      at_first outside c q = ap ReadAnswer.Refused (some_is q)
+      at_first : {x : Lookup} {e d : Option Refusal} → Case x e d → (c : Refusal) → e ≡ some c → told_by x ≡ Err c
+      at_first unfit c q = ap Err (some_is q)
+      at_first outside c q = ap Err (some_is q)
       at_first (within x d h) c q = let z : ◌≡◌ {A = ℕ} 0 1 = cc in absurd (omega arith)
 
       at-genuine : {x : Lookup} {e d : Option Refusal} → Case x e d → Genuine L area r cells → told_by x ≡ read_answer d object

@@ -1,5 +1,5 @@
 -- Laws of: What recovery's parts give together is what it promises.
-use Rattle.std.specs.Prelude.{ℕ, ◌+◌, ◌-◌, ◌<◌, max, Bool, eqb}
+use Rattle.std.specs.Prelude.{ℕ, ◌+◌, ◌-◌, ◌<◌, max, Bool, eqb, Ok, Err, Some, None}
 use Rattle.std.proofs.Math.Path.{◌≡◌, refl, sym, ap, subst}
 use Rattle.std.proofs.Common.{◌∙◌, arith, ltb-false}
 use Rattle.std.proofs.Math.Bool.{true, false}
@@ -22,8 +22,7 @@ use Rattle.record.specs.declared.Pending.TheVariants.{Idle}
 use Rattle.record.specs.declared.Refusal.{Refusal}
 use Rattle.record.specs.declared.Refusal.TheVariants.{BadOrder, TooManyKeys}
 use Rattle.record.specs.declared.Record.{Record}
-use Rattle.record.specs.declared.Recovery.{Recovery}
-use Rattle.record.specs.declared.RecoverAnswer.{RecoverAnswer}
+use Rattle.record.specs.Answered.{Recovery, RecoverAnswer}
 use Rattle.model.specs.Log.{View, Head, Placed, segment_of, scan, end_of, views_of, head_of, log_of, keys_of, highest, version_shared}
 use Rattle.model.specs.Causes.{Cause, when, first_cause}
 use Rattle.model.specs.Recovery.{image_layout, order_bad, head_else, map_bad, other_edition, log_damaged, log_slots, log_under, keys_bad, record_under, lent_causes, image_causes, key_causes, recover_causes, record_from, recovery_for, recovery}
@@ -37,15 +36,15 @@ use Rattle.laws.specs.SaidLaws.{recover-says}
 use Rattle.laws.specs.Versions.{highest-below}
 use Rattle.laws.specs.LogLaws.{AllOf, AllScanned, editions-one, undamaged-scans, log-in}
 use Rattle.drive_log.specs.Shape.{Shape}
-use Rattle.index.specs.Build.{Rebuilt, built}
+use Rattle.index.specs.Build.{Rebuilt, built, Built}
 use Rattle.index.specs.BuildLaws.{Holds}
 use Rattle.index.proofs.BuildLaws.{built-rule, built-over, log-reads}
-use Rattle.index.specs.declared.Built.{Built}
 use Rattle.recovery.specs.FormatLaws.{Fits, geometry-fits}
 use Rattle.recovery.specs.Counting.{counted_in}
 use Rattle.recovery.proofs.CountLaws.{counted-log}
-use Rattle.recovery.specs.Recovering.{lent_first, editions_bad, image_checks, image_for, image_of, record_with, refused_with}
+use Rattle.record.specs.AnswerLaws.{ok-same}
 use Rattle.recovery.specs.declared.Image.{Image}
+use Rattle.recovery.specs.Recovering.{lent_first, editions_bad, image_checks, image_for, image_of, record_with, refused_with, ImageFound}
 use Rattle.recovery.specs.RecoverPromises.{KeepsIndex, SoundImage}
 
 first-keeps : (a : List Cause) → KeepsIndex a → (c : Refusal) → first_cause a ≡ some c → eqb (number_of_refusal c) 20 ≡ false
@@ -65,17 +64,19 @@ module _ (single : Bool) (L : Layout) (v : ℕ → View) (n i : ℕ) (d : Digest
   abbrev found-edition : Layout
   found-edition = (v found-head.slot).layout
 
-  pub sound-image : image_of single v n ≡ Image.Sound L i d top → SoundImage single L v n i d top
+  pub sound-image : image_of single v n ≡ Ok (record { edition = L; slot = i; digest = d; highest = top }) → SoundImage single L v n i d top
   unfolding image_for
   sound-image e = go (first_cause (image_checks single found-edition v n (head_of v n))) refl e
     where
-      go : (o : Option Refusal) → first_cause (image_checks single found-edition v n (head_of v n)) ≡ o → image_for v n found-head o ≡ Image.Sound L i d top
+      go : (o : Option Refusal) → first_cause (image_checks single found-edition v n (head_of v n)) ≡ o → image_for v n found-head o ≡ Ok (record { edition = L; slot = i; digest = d; highest = top })
           → SoundImage single L v n i d top
       go none q f =
-          let of : found-edition ≡ L = cc in
-          let slot : found-head.slot ≡ i = cc in
-          let digest : found-head.digest ≡ d = cc in
-          let high : record { 0 = highest (log_under v n found-head) } ≡ top = cc in
+          let s : ◌≡◌ {A = Image} (record { edition = found-edition; slot = found-head.slot; digest = found-head.digest; highest = record { 0 = highest (log_under v n found-head) } })
+          (record { edition = L; slot = i; digest = d; highest = top }) = ok-same f in
+          let of : found-edition ≡ L = ap (λ (x : Image). x.edition) s in
+          let slot : found-head.slot ≡ i = ap (λ (x : Image). x.slot) s in
+          let digest : found-head.digest ≡ d = ap (λ (x : Image). x.digest) s in
+          let high : record { 0 = highest (log_under v n found-head) } ≡ top = ap (λ (x : Image). x.highest) s in
           record {
             clear = subst (λ (K : Layout). first_cause (image_checks single K v n (head_of v n)) ≡ none) of q;
             head = λ j. record { slot = slot j; digest = digest j };
@@ -175,7 +176,7 @@ module _ (L : Layout) (n s : ℕ) (order area cells : List ℕ) where
     on-image : cause ≡ first_cause rest
     on-image = first-none (lent_causes n s m (length area) ++ (when (order_bad n order) BadOrder ∷ [])) rest passed
 
-    module _ (i : ℕ) (d : Digest) (top : Version) (sound : image_of false v n ≡ Image.Sound L i d top) where
+    module _ (i : ℕ) (d : Digest) (top : Version) (sound : image_of false v n ≡ Ok (record { edition = L; slot = i; digest = d; highest = top })) where
       abbrev log : List Placed
       log = log_of v (named d.map) n
 
@@ -207,7 +208,7 @@ module _ (L : Layout) (n s : ℕ) (order area cells : List ℕ) where
           built-rule area s d.map n m order (lent_fits n s order area cells passed).area-own (map-in n i d.map (image-map false L v n i d top image)).below
           (image-scans false L v n i d top image) (image-versions false L v n i d top image) (lent-tested n s order area cells passed).order-good (cells-some n s order area cells passed) (omega (arith, cells-few n s order area cells passed)) few
 
-      overfull : keys_bad m log ≡ true → built area s d.map order m ≡ record { answer = Built.TooMany; cells = replicate m 0 }
+      overfull : keys_bad m log ≡ true → built area s d.map order m ≡ record { answer = None; cells = replicate m 0 }
       overfull many =
           built-over area s d.map n m order (lent_fits n s order area cells passed).area-own (map-in n i d.map (image-map false L v n i d top image)).below
           (image-scans false L v n i d top image) (image-versions false L v n i d top image) (lent-tested n s order area cells passed).order-good (cells-some n s order area cells passed) (omega (arith, cells-few n s order area cells passed)) many
@@ -233,7 +234,7 @@ module _ (L : Layout) (n s : ℕ) (order area cells : List ℕ) where
       abbrev Rebuilds : Built → List ℕ → Type 0
       Rebuilds a cells' = ◌≡◌ {A = Rebuilt} (record { answer = a; cells = cells' }) (built area s d.map order m)
 
-      pub over-promise : (a : Built) (cells' : List ℕ) (r : Recovery) → Rebuilds a cells' → a ≡ Built.TooMany → r ≡ refused_with TooManyKeys
+      pub over-promise : (a : Built) (cells' : List ℕ) (r : Recovery) → Rebuilds a cells' → a ≡ None → r ≡ refused_with TooManyKeys
           → RecoverPromise (image_layout n s area) n s order area cells cells' r
       unfolding recovery recovery_for IndexAfter
       over-promise a cells' r e over its = by-head (subst (RecoverPromise L n s order area cells cells') (sym its) (go (keys_bad m log) refl))
@@ -250,7 +251,7 @@ module _ (L : Layout) (n s : ℕ) (order area cells : List ℕ) where
                 index = zeros ∙ sym (pick_true (eqb 20 20) (replicate m 0) cells refl);
               }
           go false q =
-              let says : a ≡ Built.Keys (length (keys_of log)) = ap (λ (r : Rebuilt). r.answer) e ∙ (rebuilt q).answers in
+              let says : a ≡ Some (length (keys_of log)) = ap (λ (r : Rebuilt). r.answer) e ∙ (rebuilt q).answers in
               let z : ◌≡◌ {A = ℕ} 0 1 = cc in absurd (omega arith)
 
       -- the number of keys that a rebuilding tells
@@ -260,31 +261,31 @@ module _ (L : Layout) (n s : ℕ) (order area cells : List ℕ) where
         rule : IndexRule s log cells'
         long : length cells' ≡ m
 
-      told : (a : Built) (k : ℕ) (cells' : List ℕ) → Rebuilds a cells' → a ≡ Built.Keys k → Told k cells'
+      told : (a : Built) (k : ℕ) (cells' : List ℕ) → Rebuilds a cells' → a ≡ Some k → Told k cells'
       told a k cells' e counts = go (keys_bad m log) refl
         where
           go : (t : Bool) → keys_bad m log ≡ t → Told k cells'
           go true q =
-              let says : a ≡ Built.TooMany = ap (λ (r : Rebuilt). r.answer) (e ∙ overfull q) in
+              let says : a ≡ None = ap (λ (r : Rebuilt). r.answer) (e ∙ overfull q) in
               let z : ◌≡◌ {A = ℕ} 0 1 = cc in absurd (omega arith)
           go false q =
               let h = rebuilt q in
-              let says : a ≡ Built.Keys (length (keys_of log)) = ap (λ (r : Rebuilt). r.answer) e ∙ h.answers in
+              let says : a ≡ Some (length (keys_of log)) = ap (λ (r : Rebuilt). r.answer) e ∙ h.answers in
               let its : cells' ≡ (built area s d.map order m).cells = ap (λ (r : Rebuilt). r.cells) e in
               record { few = q; keys = cc; rule = subst (IndexRule s log) (sym its) h.rule; long = ap length its ∙ h.long }
 
       -- the number of keys fits
-      pub keys-few : (a : Built) (k : ℕ) (cells' : List ℕ) → Rebuilds a cells' → a ≡ Built.Keys k → k < 4097
+      pub keys-few : (a : Built) (k : ℕ) (cells' : List ℕ) → Rebuilds a cells' → a ≡ Some k → k < 4097
       keys-few a k cells' e counts =
           let t = told a k cells' e counts in
           omega (arith, ltb-false (m - 1) (length (keys_of log)) t.few, cells-few n s order area cells passed)
 
       -- the cells are as many as before
-      pub cells-kept : (a : Built) (k : ℕ) (cells' : List ℕ) → Rebuilds a cells' → a ≡ Built.Keys k → length cells' < 4097
+      pub cells-kept : (a : Built) (k : ℕ) (cells' : List ℕ) → Rebuilds a cells' → a ≡ Some k → length cells' < 4097
       cells-kept a k cells' e counts = omega (arith, (told a k cells' e counts).long, cells-few n s order area cells passed)
 
       -- the present bytes that are counted over the cells
-      counts-told : (a : Built) (k : ℕ) (cells' : List ℕ) → Rebuilds a cells' → a ≡ Built.Keys k → counted_in s area cells' ≡ counts_of log
+      counts-told : (a : Built) (k : ℕ) (cells' : List ℕ) → Rebuilds a cells' → a ≡ Some k → counted_in s area cells' ≡ counts_of log
       counts-told a k cells' e counts =
           counted-log s area log cells' (told a k cells' e counts).rule (image-versions false L v n i d top image)
           (λ x w. (log-in v (named d.map) n x w).layout) (log-reads area s (named d.map) n (image-scans false L v n i d top image))
@@ -308,9 +309,9 @@ module _ (L : Layout) (n s : ℕ) (order area cells : List ℕ) where
             pending = Idle;
           }
 
-      pub keys-promise : (a : Built) (k : ℕ) (cells' counts : List ℕ) (rec : Record) → Rebuilds a cells' → a ≡ Built.Keys k
+      pub keys-promise : (a : Built) (k : ℕ) (cells' counts : List ℕ) (rec : Record) → Rebuilds a cells' → a ≡ Some k
           → counts ≡ counted_in s area cells' → rec ≡ record_with L n s (length cells') area i d top k counts
-          → RecoverPromise (image_layout n s area) n s order area cells cells' (record { answer = RecoverAnswer.Recovered; rec = rec })
+          → RecoverPromise (image_layout n s area) n s order area cells cells' (record { answer = (Ok tt); rec = rec })
       unfolding recovery recovery_for IndexAfter
       keys-promise a k cells' bytes rec e counts number its =
           let t = told a k cells' e counts in
@@ -318,8 +319,8 @@ module _ (L : Layout) (n s : ℕ) (order area cells : List ℕ) where
           let nothing : cause ≡ none = on_keys ∙ cause-none (when (keys_bad m log) TooManyKeys) [] t.few nil in
           let same : rec ≡ record_under L v n s m (record { slot = i; digest = d }) =
           its ∙ (λ j. record_at (t.long j) (head-end j) (image.top-is j) (t.keys j) (present-bytes j)) in
-          let answered : record { answer = RecoverAnswer.Recovered; rec = rec } ≡ recovery L n s m order area =
-          ap (λ (x : Record). record { answer = RecoverAnswer.Recovered; rec = x }) (same ∙ ap (record_under L v n s m) (sym image.head))
+          let answered : record { answer = (Ok tt); rec = rec } ≡ recovery L n s m order area =
+          ap (λ (x : Record). record { answer = (Ok tt); rec = x }) (same ∙ ap (record_under L v n s m) (sym image.head))
           ∙ ap (λ (o : Option Refusal). recovery_for o (record_from L n s m area)) (sym nothing) in
           by-head
           (record {
@@ -340,13 +341,13 @@ module _ (n s : ℕ) (order area cells : List ℕ) (passed : lent_first n s (len
   abbrev found : List Cause
   found = image_causes its (views_of area s) n (head_of (views_of area s) n)
 
-  pub image-promise : (c : Refusal) (r : Recovery) → image_of false (views_of area s) n ≡ Image.Refused c → r ≡ refused_with c
+  pub image-promise : (c : Refusal) (r : Recovery) → image_of false (views_of area s) n ≡ Err c → r ≡ refused_with c
       → RecoverPromise its n s order area cells cells r
   unfolding image_for
   image-promise c r e same =
       subst (RecoverPromise its n s order area cells cells) (sym same) (go (first_cause found) refl e)
     where
-      go : (o : Option Refusal) → first_cause found ≡ o → image_for (views_of area s) n (head_else (head_of (views_of area s) n)) o ≡ Image.Refused c
+      go : (o : Option Refusal) → first_cause found ≡ o → image_for (views_of area s) n (head_else (head_of (views_of area s) n)) o ≡ Err c
           → RecoverPromise its n s order area cells cells (refused_with c)
       go none p q = let z : ◌≡◌ {A = ℕ} 0 1 = cc in absurd (omega arith)
       go (some b) p q =

@@ -1,5 +1,5 @@
 -- Recovery in the parts in which its code makes it: what is lent (1, 2, 15), the image (16 to 19, 24, 25 and 28), and the record.
-use Rattle.std.specs.Prelude.{ℕ, ◌+◌, max, Bool, true, false, List, [], ◌∷◌, ◌++◌}
+use Rattle.std.specs.Prelude.{ℕ, Result, ◌+◌, max, Bool, true, false, List, [], ◌∷◌, ◌++◌, Ok, Err}
 use Rattle.std.proofs.Math.Option.{Option, none, some}
 use Rattle.segment.specs.Layout.{Layout}
 use Rattle.segment.specs.declared.Digest.{Digest}
@@ -9,21 +9,20 @@ use Rattle.record.specs.declared.Refusal.{Refusal}
 use Rattle.record.specs.declared.Refusal.TheVariants.{BadOrder}
 use Rattle.record.specs.declared.Pending.TheVariants.{Idle}
 use Rattle.record.specs.declared.Record.{Record}
-use Rattle.record.specs.declared.Recovery.{Recovery}
-use Rattle.record.specs.declared.RecoverAnswer.{RecoverAnswer}
+use Rattle.record.specs.Answered.{Recovery, RecoverAnswer}
 use Rattle.model.specs.Log.{View, Head, segment_of, scan, end_of, head_of, highest}
 use Rattle.model.specs.Causes.{Cause, when, first_cause}
 use Rattle.model.specs.Recovery.{order_bad, lent_causes, later_edition, other_edition, image_causes_by, head_else, log_slots, log_under}
-use Rattle.recovery.specs.declared.Checked.{Checked}
+use Rattle.record.specs.Answered.{Check}
 use Rattle.recovery.specs.declared.Image.{Image}
 
 -- 1, 2 and 15, which look at no byte of the area
 abbrev pub lent_first : ℕ → ℕ → ℕ → ℕ → List ℕ → Option Refusal
 lent_first n s m area_length order = first_cause (lent_causes n s m area_length ++ (when (order_bad n order) BadOrder ∷ []))
 
-unfoldable pub checked_as : Option Refusal → Checked
-checked_as none = Checked.Passed
-checked_as (some c) = Checked.Refused c
+unfoldable pub checked_as : Option Refusal → Check
+checked_as none = (Ok tt)
+checked_as (some c) = Err c
 
 -- 28 in its two forms: where the log has to be of a single edition, which the conversion of images asks, and where slots of an earlier edition
 -- than the head's are taken, as recovery and the read by scan do (02, R-13)
@@ -35,17 +34,21 @@ editions_bad false L v p n = later_edition L v p n
 abbrev pub image_checks : Bool → Layout → (ℕ → View) → ℕ → Option Head → List Cause
 image_checks single L v n h = image_causes_by (editions_bad single L v (log_slots (head_else h)) n) v n h
 
--- what refuses the image, or the head with its edition and the highest version in its log
-unfoldable pub image_for : (ℕ → View) → ℕ → Head → Option Refusal → Image
-image_for v n h none = Image.Sound (v h.slot).layout h.slot h.digest (record { 0 = highest (log_under v n h) })
-image_for v n h (some c) = Image.Refused c
+-- the head of an image with its edition and the highest version in its log, or the cause that refuses the image
+abbrev pub ImageFound : Type 0
+ImageFound = Result Image Refusal
 
-abbrev pub image_of : Bool → (ℕ → View) → ℕ → Image
+-- what refuses the image, or the head with its edition and the highest version in its log
+unfoldable pub image_for : (ℕ → View) → ℕ → Head → Option Refusal → ImageFound
+image_for v n h none = Ok (record { edition = (v h.slot).layout; slot = h.slot; digest = h.digest; highest = (record { 0 = highest (log_under v n h) }) })
+image_for v n h (some c) = Err c
+
+abbrev pub image_of : Bool → (ℕ → View) → ℕ → ImageFound
 image_of single v n =
     image_for v n (head_else (head_of v n)) (first_cause (image_checks single (v (head_else (head_of v n)).slot).layout v n (head_of v n)))
 
 -- the same under a head that was found
-abbrev pub image_under : Bool → (ℕ → View) → ℕ → Head → Image
+abbrev pub image_under : Bool → (ℕ → View) → ℕ → Head → ImageFound
 image_under single v n h = image_for v n h (first_cause (image_checks single (v h.slot).layout v n (some h)))
 
 -- the record of a head, the highest version in its log, the number of its keys, and the present bytes of the slots
@@ -69,4 +72,4 @@ record_with L n s m area slot d top keys counts =
 
 -- a refusal stands beside the blank record
 abbrev pub refused_with : Refusal → Recovery
-refused_with c = record { answer = RecoverAnswer.Refused c; rec = blank }
+refused_with c = record { answer = Err c; rec = blank }

@@ -35,10 +35,8 @@ pub fn count(s: u32, area: &[u8], cells: &[u32]) -> [u32; 32]
     ensures { result ≡ counted_in s area.now cells.now }
 {
     let mut counts = [0; 32];
-    let mut i = 0;
-    while i < cells.len() {
-        count_cell(s, area, cells[i], &mut counts);
-        i += 1;
+    for cell in cells {
+        count_cell(s, area, *cell, &mut counts);
     }
     counts
 }

@@ -5,8 +5,8 @@ ghost use Rattle.model.specs.Recovery.{geometry_bad};
 ghost use Rattle.model.specs.Operations.{cleared};
 ghost use Rattle.model.specs.Promises.{FormatPromise};
 
+use record::Refusal;
 use record::range::{size_good, slots_good};
-use record::{FormatAnswer, Refusal};
 use segment::layout::digest_size;
 use segment::writer::write_digest;
 use segment::{Digest, DigestNumber, Edition, Version};
@@ -29,19 +29,17 @@ fn clear(n: usize, s: usize, area: &mut [u8])
     requires { (0 < s) × (n * s ≤ length area.old) }
     ensures { area.new ≡ cleared s n area.old }
 {
-    let mut i = 0;
-    while i < n {
-        area[i * s] = 0;
-        i += 1;
+    for slot in 0..n {
+        area[slot * s] = 0;
     }
 }
 
 // Slot 0 becomes the head of an empty log of an edition, and no other slot has a digest.
-fn format_as(edition: Edition, n: u32, s: u32, area: &mut [u8]) -> FormatAnswer
+fn format_as(edition: Edition, n: u32, s: u32, area: &mut [u8]) -> Result<(), Refusal>
     ensures { FormatPromise (number_of_layout edition) n s area.old area.new result }
 {
     if geometry_bad(n, s, area.len()) {
-        return FormatAnswer::Refused(Refusal::Geometry);
+        return Err(Refusal::Geometry);
     }
     clear(n as usize, s as usize, area);
     let first = Digest {
@@ -51,11 +49,11 @@ fn format_as(edition: Edition, n: u32, s: u32, area: &mut [u8]) -> FormatAnswer
     };
     write_digest(edition, area, 0, first);
     area[digest_size(edition)] = 0;
-    FormatAnswer::Formatted
+    Ok(())
 }
 
 // Format is told the edition by its number (02, R-11), and any but 1 and 2 is refused.
-pub fn format(n: u32, s: u32, edition: u32, area: &mut [u8]) -> FormatAnswer
+pub fn format(n: u32, s: u32, edition: u32, area: &mut [u8]) -> Result<(), Refusal>
     ensures { FormatPromise edition n s area.old area.new result }
 {
     if edition == 1 {
@@ -64,5 +62,5 @@ pub fn format(n: u32, s: u32, edition: u32, area: &mut [u8]) -> FormatAnswer
     if edition == 2 {
         return format_as(Edition::Second, n, s, area);
     }
-    FormatAnswer::Refused(Refusal::Geometry)
+    Err(Refusal::Geometry)
 }

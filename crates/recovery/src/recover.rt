@@ -11,20 +11,18 @@ ghost use Rattle.drive_log.specs.Shape.{Shape};
 ghost use Rattle.recovery.specs.Order.{see_slot, seen_from};
 ghost use Rattle.recovery.specs.Recovering.{lent_first, checked_as, editions_bad, image_of, image_under, record_with, refused_with};
 
+use crate::Image;
 use crate::count::count;
 use crate::format::geometry_bad;
-use crate::{Checked, Image};
-use drive_log::HeadFound;
 use drive_log::head::{
     find_head, names_later_edition, names_no_digest, names_other_edition, shared_number,
 };
 use drive_log::scan::end_of;
 use drive_log::survey::survey;
 use drive_log::versions::version_shared;
-use index::Built;
 use index::build::build;
 use record::range::{cells_good, map_good};
-use record::{Pending, Record, RecoverAnswer, Recovery, Refusal, blank};
+use record::{Answered, Pending, Record, Recovery, Refusal, blank};
 use segment::area::cut;
 use segment::reader::edition_of;
 use segment::{Digest, DigestNumber, Edition, Version};
@@ -48,10 +46,8 @@ fn slots_seen(n: u32, order: &[u8]) -> u32
     ensures { result ≡ seen_from n 0 order.now }
 {
     let mut seen = 0;
-    let mut i = 0;
-    while i < order.len() {
-        seen = see_slot(n, seen, order[i]);
-        i += 1;
+    for slot in order {
+        seen = see_slot(n, seen, *slot);
     }
     seen
 }
@@ -68,19 +64,19 @@ fn order_bad(n: u32, order: &[u8]) -> bool
 }
 
 // 1, 2 and 15, before any look at the area.
-fn check_lent(n: u32, s: u32, order: &[u8], area: usize, index: usize) -> Checked
+fn check_lent(n: u32, s: u32, order: &[u8], area: usize, index: usize) -> Result<(), Refusal>
     ensures { result ≡ checked_as (lent_first n s index area order.now) }
 {
     if geometry_bad(n, s, area) {
-        return Checked::Refused(Refusal::Geometry);
+        return Err(Refusal::Geometry);
     }
     if !cells_good(index) {
-        return Checked::Refused(Refusal::Cells);
+        return Err(Refusal::Cells);
     }
     if order_bad(n, order) {
-        return Checked::Refused(Refusal::BadOrder);
+        return Err(Refusal::BadOrder);
     }
-    Checked::Passed
+    Ok(())
 }
 
 // Whether the highest digest number is 0, or more than one slot has it.
@@ -108,21 +104,21 @@ fn digest_bad(n: usize, s: usize, area: &[u8], slot: usize, digest: Digest) -> b
 }
 
 // 17, 24 and 25, of the head's digest (02, R-8).
-fn check_digest(n: usize, s: usize, area: &[u8], slot: usize, digest: Digest) -> Checked
+fn check_digest(n: usize, s: usize, area: &[u8], slot: usize, digest: Digest) -> Result<(), Refusal>
     requires { Shape n s area.now × (slot < n) }
     ensures { result ≡ checked_as
         (first_cause (digest_causes (views_of area.now s) n (record { slot = slot; digest = digest }))) }
 {
     if digest_bad(n, s, area, slot, digest) {
-        return Checked::Refused(Refusal::BadDigest);
+        return Err(Refusal::BadDigest);
     }
     if !map_good(n as u32, slot as u32, digest.map) {
-        return Checked::Refused(Refusal::BadMap);
+        return Err(Refusal::BadMap);
     }
     if names_no_digest(n, s, area, digest.map) {
-        return Checked::Refused(Refusal::MapNoDigest);
+        return Err(Refusal::MapNoDigest);
     }
-    Checked::Passed
+    Ok(())
 }
 
 // 28, under a head of an edition. The conversion of images asks for a log of that edition alone; recovery and the read by scan take
@@ -138,7 +134,14 @@ fn editions_bad(single: bool, edition: Edition, n: usize, s: usize, area: &[u8],
 }
 
 // 28, 18 and 19, under a head whose digest is good. The edition is the head's (02, R-11).
-fn look_through(single: bool, n: usize, s: usize, area: &[u8], slot: usize, digest: Digest) -> Image
+fn look_through(
+    single: bool,
+    n: usize,
+    s: usize,
+    area: &[u8],
+    slot: usize,
+    digest: Digest,
+) -> Result<Image, Refusal>
     requires { Shape n s area.now
         × (first_cause (digest_causes (views_of area.now s) n (record { slot = slot; digest = digest })) ≡ none) }
     ensures { result ≡ image_under single (views_of area.now s) n (record { slot = slot; digest = digest }) }
@@ -146,43 +149,48 @@ fn look_through(single: bool, n: usize, s: usize, area: &[u8], slot: usize, dige
     let map = digest.map;
     let edition = edition_of(cut(s, area, slot));
     if editions_bad(single, edition, n, s, area, map) {
-        return Image::Refused(Refusal::MixedEditions);
+        return Err(Refusal::MixedEditions);
     }
     let passed = survey(n, s, area, map);
     if !passed.sound {
-        return Image::Refused(Refusal::DamagedLog);
+        return Err(Refusal::DamagedLog);
     }
     if version_shared(n, s, area, map, passed.apart) {
-        return Image::Refused(Refusal::SharedVersion);
+        return Err(Refusal::SharedVersion);
     }
     let highest = passed.highest;
-    Image::Sound {
+    Ok(Image {
         edition,
         slot,
         digest,
         highest,
-    }
+    })
 }
 
 // 17, 24, 25, 28, 18 and 19, under a head that was found.
-fn look_under(single: bool, n: usize, s: usize, area: &[u8], slot: usize, digest: Digest) -> Image
+fn look_under(
+    single: bool,
+    n: usize,
+    s: usize,
+    area: &[u8],
+    slot: usize,
+    digest: Digest,
+) -> Result<Image, Refusal>
     requires { Shape n s area.now × (slot < n) }
     ensures { result ≡ image_under single (views_of area.now s) n (record { slot = slot; digest = digest }) }
 {
-    match check_digest(n, s, area, slot, digest) {
-        Checked::Refused(cause) => Image::Refused(cause),
-        Checked::Passed => look_through(single, n, s, area, slot, digest),
-    }
+    check_digest(n, s, area, slot, digest)?;
+    look_through(single, n, s, area, slot, digest)
 }
 
 // 16, 17, 24, 25, 28, 18 and 19, which look at the image alone. `single` asks that the whole log is of the head's edition.
-pub fn look_at(single: bool, n: usize, s: usize, area: &[u8]) -> Image
+pub fn look_at(single: bool, n: usize, s: usize, area: &[u8]) -> Result<Image, Refusal>
     requires { Shape n s area.now }
     ensures { result ≡ image_of single (views_of area.now s) n }
 {
     match find_head(n, s, area) {
-        HeadFound::Nothing => Image::Refused(Refusal::NoDigest),
-        HeadFound::At { slot, digest } => look_under(single, n, s, area, slot, digest),
+        None => Err(Refusal::NoDigest),
+        Some(head) => look_under(single, n, s, area, head.slot, head.digest),
     }
 }
 
@@ -237,8 +245,8 @@ fn record_of(
 fn refused(cause: Refusal) -> Recovery
     ensures { result ≡ refused_with cause }
 {
-    Recovery {
-        answer: RecoverAnswer::Refused(cause),
+    Answered {
+        answer: Err(cause),
         rec: blank(),
     }
 }
@@ -249,27 +257,22 @@ fn recover_image(n: u32, s: u32, order: &[u8], area: &[u8], index: &mut [u32]) -
     ensures { RecoverPromise (image_layout n s area.now) n s order.now area.now index.old index.new result }
 {
     match look_at(false, n as usize, s as usize, area) {
-        Image::Refused(cause) => refused(cause),
-        Image::Sound {
-            edition,
-            slot,
-            digest,
-            highest,
-        } => {
-            let map = digest.map;
+        Err(cause) => refused(cause),
+        Ok(image) => {
+            let map = image.digest.map;
             match build(area, index, order, s as usize, map) {
-                Built::TooMany => refused(Refusal::TooManyKeys),
-                Built::Keys(keys) => Recovery {
-                    answer: RecoverAnswer::Recovered,
+                None => refused(Refusal::TooManyKeys),
+                Some(keys) => Answered {
+                    answer: Ok(()),
                     rec: record_of(
-                        edition,
+                        image.edition,
                         n,
                         s,
                         index.len() as u32,
                         area,
-                        slot,
-                        digest,
-                        highest,
+                        image.slot,
+                        image.digest,
+                        image.highest,
                         keys as u32,
                         count(s, area, index),
                     ),
@@ -284,7 +287,7 @@ pub fn recover(n: u32, s: u32, order: &[u8], area: &[u8], index: &mut [u32]) -> 
     ensures { RecoverPromise (image_layout n s area.now) n s order.now area.now index.old index.new result }
 {
     match check_lent(n, s, order, area.len(), index.len()) {
-        Checked::Refused(cause) => refused(cause),
-        Checked::Passed => recover_image(n, s, order, area, index),
+        Err(cause) => refused(cause),
+        Ok(()) => recover_image(n, s, order, area, index),
     }
 }

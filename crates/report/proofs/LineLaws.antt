@@ -12,10 +12,9 @@ use Rattle.record.specs.Reach.{table_alone, alone-holds}
 use Rattle.record.specs.declared.Record.{Record}
 use Rattle.model.specs.Log.{Placed, present}
 use Rattle.model.specs.Operations.{log_now, TypedKey}
-use Rattle.recovery.specs.Lookups.{looked_up}
+use Rattle.recovery.specs.Lookups.{looked_up, Lookup}
 use Rattle.recovery.specs.LookupLaws.{lookup_for}
 use Rattle.recovery.proofs.LookupLaws.{genuine-lookup}
-use Rattle.recovery.specs.declared.Lookup.{Lookup}
 use Rattle.text.specs.Put.{Put, put-none, put_then}
 use Rattle.report.specs.Report.{line_of, lines_of}
 use Rattle.report.specs.PutLaws.{PutWithin}

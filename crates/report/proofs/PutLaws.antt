@@ -1,17 +1,15 @@
 -- Laws of: Text that is put within so many bytes.
-use Rattle.std.specs.Prelude.{ℕ, ◌+◌, ◌^◌, ◌≤◌, ◌<◌, ◌≡◌, List, [], ◌++◌, length}
+use Rattle.std.specs.Prelude.{ℕ, zero, suc, ◌+◌, ◌^◌, ◌≤◌, ◌<◌, ◌≡◌, List, [], ◌++◌, length}
 use Rattle.std.proofs.Common.{subst, arith}
 use Rattle.text.specs.Digits.{digits, digits-length}
 use Rattle.text.specs.Put.{Put, put-none, put_then}
 use Rattle.report.specs.Report.{field}
 use Rattle.report.specs.PutLaws.{PutWithin}
 
--- a number of 32 bits has at most ten digits, one of 64 at most twenty
-pub number-room : (n : ℕ) → n < 2 ^ 32 → length (digits n) ≤ 10
-number-room n h = digits-length 9 n (omega arith)
-
-pub version-room : (n : ℕ) → n < 2 ^ 64 → length (digits n) ≤ 20
-version-room n h = digits-length 19 n (omega arith)
+-- a number below a power of ten has no more digits than the exponent says
+pub number-room : (most n : ℕ) → 0 < most → n < 10 ^ most → length (digits n) ≤ most
+number-room zero n h l = absurd (omega arith)
+number-room (suc k) n h l = digits-length k n l
 
 -- a number whose digits take no more than so many bytes, and a word
 pub field-within : {out out₁ out₂ : List ℕ} {at e₁ e₂ room : ℕ} {word : List ℕ} (n : ℕ) → length (digits n) ≤ room → Put out out₁ at e₁ (digits n)

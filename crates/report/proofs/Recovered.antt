@@ -1,5 +1,5 @@
 -- Laws of: Recovery with the slots in ascending order, and what its answer makes of the text.
-use Rattle.std.specs.Prelude.{ℕ, zero, suc, ◌≤◌, min, Bool, true, not, List, [], ◌∷◌, eqb, leb, length, take}
+use Rattle.std.specs.Prelude.{ℕ, zero, suc, ◌≤◌, min, Bool, true, not, List, [], ◌∷◌, eqb, leb, length, take, Ok, Err}
 use Rattle.std.proofs.Math.Path.{◌≡◌, refl, sym, ap, subst}
 use Rattle.std.proofs.Common.{◌∙◌, arith, leb-true, eqb-true}
 use Rattle.std.proofs.Math.Bool.{false}
@@ -10,8 +10,7 @@ use Rattle.segment.specs.Choice.{both, either}
 use Rattle.segment.proofs.Choice.{both_left, both_right, both-false-left}
 use Rattle.segment.specs.Layout.{Layout}
 use Rattle.record.specs.Range.{between, slots_good, size_good, fits_lent}
-use Rattle.record.specs.declared.Recovery.{Recovery}
-use Rattle.record.specs.declared.RecoverAnswer.{RecoverAnswer}
+use Rattle.record.specs.Answered.{Recovery}
 use Rattle.record.specs.declared.Refusal.{Refusal}
 use Rattle.record.specs.declared.Record.{Record}
 use Rattle.model.specs.Causes.{Cause, when, first_cause}
@@ -84,16 +83,16 @@ module _ (n s : ℕ) (area cells cells' : List ℕ) (r : Recovery) (long : lengt
   answered =
       p.answers ∙ ap (λ (m : ℕ). recovery L n s m (slots_in_order n) area) long ∙ ascending-recovery L n s cells_used area
 
-  pub text-refused : (c : Refusal) → r.answer ≡ RecoverAnswer.Refused c → refused_line c ≡ area_text n s area
+  pub text-refused : (c : Refusal) → r.answer ≡ Err c → refused_line c ≡ area_text n s area
   unfolding area_text text_unless
   text-refused c e = go (cause L n s cells_used area) (ap (λ (x : Recovery). x.answer) (sym answered) ∙ e)
     where
-      go : (o : Option Refusal) → (recovery_for o (rec L n s cells_used area)).answer ≡ RecoverAnswer.Refused c
+      go : (o : Option Refusal) → (recovery_for o (rec L n s cells_used area)).answer ≡ Err c
           → refused_line c ≡ text_unless o (listing_text area (rec L n s cells_used area))
       go none q = unfold recovery_for in (let z : ◌≡◌ {A = ℕ} 0 1 = cc in absurd (omega arith))
       go (some d) q = unfold recovery_for in (let same : d ≡ c = cc in ap refused_line (sym same))
 
-  module _ (e : r.answer ≡ RecoverAnswer.Recovered) where
+  module _ (e : r.answer ≡ (Ok tt)) where
     accepted : (cause L n s cells_used area ≡ none) × (r.rec ≡ rec L n s cells_used area)
     accepted = go (cause L n s cells_used area) answered
       where
@@ -101,7 +100,7 @@ module _ (n s : ℕ) (area cells cells' : List ℕ) (r : Recovery) (long : lengt
         go none q = unfold recovery_for in (refl, ap (λ (x : Recovery). x.rec) q)
         go (some d) q =
             unfold recovery_for in
-            (let w : RecoverAnswer.Refused d ≡ RecoverAnswer.Recovered = ap (λ (x : Recovery). x.answer) (sym q) ∙ e in
+            (let w : Err d ≡ (Ok tt) = ap (λ (x : Recovery). x.answer) (sym q) ∙ e in
             let z : ◌≡◌ {A = ℕ} 0 1 = cc in
             absurd (omega arith))
 

@@ -1,5 +1,5 @@
 -- The lines of the present keys: what a lookup makes of a key's line, and what the loop over the keys keeps.
-use Rattle.std.specs.Prelude.{ℕ, zero, suc, ◌+◌, ◌*◌, ◌<◌, ◌≤◌, ◌≡◌, get_or, take}
+use Rattle.std.specs.Prelude.{ℕ, zero, suc, ◌+◌, ◌*◌, ◌<◌, ◌≤◌, ◌≡◌, get_or, take, Ok, Err}
 use Rattle.std.proofs.Math.Path.{refl, sym, ap}
 use Rattle.std.proofs.Common.{◌∙◌, subst, add-one, arith, length-take-le}
 use mathlib.Core.List.Memᴰ
@@ -10,7 +10,7 @@ use Rattle.segment.specs.declared.Key.{Key}
 use Rattle.record.specs.declared.Record.{Record}
 use Rattle.model.specs.Log.{Placed}
 use Rattle.model.specs.Operations.{log_now}
-use Rattle.recovery.specs.declared.Lookup.{Lookup}
+use Rattle.recovery.specs.Lookups.{Lookup}
 use Rattle.laws.specs.Members.{In, first}
 use Rattle.text.specs.Put.{Put}
 use Rattle.report.specs.Report.{key_line, lines_of}
@@ -21,10 +21,8 @@ use Rattle.report.specs.Listing.{present_keys}
 -- ---- the line of one key
 
 unfoldable pub line_found : Key → Lookup → List ℕ
-line_found k (Lookup.Object p v kind n) = key_line k v kind
-line_found k Lookup.Absent = []
-line_found k Lookup.Outside = []
-line_found k Lookup.Bad = []
+line_found k (Ok s) = key_line k s.version s.kind
+line_found k (Err c) = []
 
 -- ---- the keys one after the other
 

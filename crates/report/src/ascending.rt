@@ -1,5 +1,5 @@
 // Recovery with the slots in ascending order.
-ghost use Rattle.std.specs.Prelude.{◌≤◌, min, ◌≡◌, length, take};
+ghost use Rattle.std.specs.Prelude.{◌≤◌, min, length, take};
 ghost use Rattle.model.specs.Recovery.{image_layout};
 ghost use Rattle.model.specs.Promises.{RecoverPromise};
 ghost use Rattle.report.specs.Recovered.{slots_in_order};
@@ -7,19 +7,12 @@ ghost use Rattle.report.specs.Recovered.{slots_in_order};
 use record::Recovery;
 use recovery::recover::recover;
 
-// How many slots there can be of n.
-fn slots_of(n: u32) -> usize
-    ensures { result ≡ min n 32 }
-{
-    if n < 32 { n as usize } else { 32 }
-}
-
 // Recovery with the first N of 32 slots as the order. An N above 32 is refused before the order is looked at.
 fn recover_first(n: u32, s: u32, slots: &[u8], area: &[u8], index: &mut [u32]) -> Recovery
     requires { 32 ≤ length slots.now }
     ensures { RecoverPromise (image_layout n s area.now) n s (take (min n 32) slots.now) area.now index.old index.new result }
 {
-    let used = slots_of(n);
+    let used = n.min(32) as usize;
     recover(n, s, &slots[..used], area, index)
 }
 

@@ -43,9 +43,7 @@ pub fn gather(area: &[u8], index: &[u32], ranks: &mut [u64]) -> usize
     ensures { Gathered (cell_rank area.now) index.now ranks.new 0 result }
 {
     let mut n = 0;
-    let mut i = index.len();
-    while 0 < i {
-        i -= 1;
+    for i in (0..index.len()).rev() {
         n = add_cell(area, index[i], ranks, n);
     }
     n

@@ -8,7 +8,7 @@ ghost use Rattle.report.specs.PutLaws.{PutWithin};
 use crate::ascending::recover_area;
 use crate::lines::put_refused;
 use crate::listing::put_listing;
-use record::{RecoverAnswer, Refusal};
+use record::Refusal;
 use word::number::read16;
 
 mod ascending;
@@ -33,8 +33,8 @@ fn put_area(n: u32, s: u32, area: &[u8], out: &mut [u8]) -> usize
     let answer = recovery.answer;
     let rec = recovery.rec;
     match answer {
-        RecoverAnswer::Refused(cause) => put_refused(out, cause),
-        RecoverAnswer::Recovered => put_listing(rec, area, &index, out),
+        Err(cause) => put_refused(out, cause),
+        Ok(()) => put_listing(rec, area, &index, out),
     }
 }
 

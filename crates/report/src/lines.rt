@@ -1,5 +1,5 @@
 // The lines of a report, each put into the buffer at a place and answering the place behind it.
-ghost use Rattle.std.specs.Prelude.{◌+◌, ◌≤◌, length};
+ghost use Rattle.std.specs.Prelude.{◌+◌, ◌^◌, ◌<◌, ◌≤◌, length};
 ghost use Rattle.report.specs.Report.{field, refused_line, head_line, key_line};
 ghost use Rattle.report.specs.PutLaws.{PutWithin};
 
@@ -7,21 +7,12 @@ use record::{Refusal, number};
 use segment::{DigestNumber, Key, Version};
 use text::{put, put_number};
 
-// A number, and a word behind it.
-fn put_field(out: &mut [u8], at: usize, n: u32, word: &[u8]) -> usize
-    requires { at + 10 + length word.now ≤ length out.old }
-    ensures { PutWithin out.old out.new at result (field n word.now) (10 + length word.now) }
+// A number of at most so many digits, and a word behind it.
+fn put_field<const DIGITS: usize>(out: &mut [u8], at: usize, n: u64, word: &[u8]) -> usize
+    requires { (0 < DIGITS) × (n < 10 ^ DIGITS) × (at + DIGITS + length word.now ≤ length out.old) }
+    ensures { PutWithin out.old out.new at result (field n word.now) (DIGITS + length word.now) }
 {
-    let end = put_number(out, at, n as u64);
-    put(out, end, word)
-}
-
-// A version, and a word behind it.
-fn put_version(out: &mut [u8], at: usize, version: Version, word: &[u8]) -> usize
-    requires { at + 20 + length word.now ≤ length out.old }
-    ensures { PutWithin out.old out.new at result (field version.0 word.now) (20 + length word.now) }
-{
-    let end = put_number(out, at, version.0);
+    let end = put_number(out, at, n);
     put(out, end, word)
 }
 
@@ -31,7 +22,7 @@ pub fn put_refused(out: &mut [u8], cause: Refusal) -> usize
     ensures { PutWithin out.old out.new 0 result (refused_line cause) 64 }
 {
     let at = put(out, 0, b"refused ");
-    put_field(out, at, number(cause), b"\n")
+    put_field::<10>(out, at, number(cause) as u64, b"\n")
 }
 
 // Next version, digest number and number of keys.
@@ -40,9 +31,9 @@ pub fn put_head(out: &mut [u8], next: Version, digest: DigestNumber, keys: u32) 
     ensures { PutWithin out.old out.new 0 result (head_line next digest keys) 64 }
 {
     let at = put(out, 0, b"next ");
-    let at = put_version(out, at, next, b" digest ");
-    let at = put_field(out, at, digest.0, b" keys ");
-    put_field(out, at, keys, b"\n")
+    let at = put_field::<20>(out, at, next.0, b" digest ");
+    let at = put_field::<10>(out, at, digest.0 as u64, b" keys ");
+    put_field::<10>(out, at, keys as u64, b"\n")
 }
 
 // Table, key, version and kind.
@@ -50,8 +41,8 @@ pub fn put_key(out: &mut [u8], at: usize, key: Key, version: Version, kind: u8) 
     requires { at + 54 ≤ length out.old }
     ensures { PutWithin out.old out.new at result (key_line key version kind) 54 }
 {
-    let at = put_field(out, at, key.table as u32, b" ");
-    let at = put_field(out, at, key.key, b" ");
-    let at = put_version(out, at, version, b" ");
-    put_field(out, at, kind as u32, b"\n")
+    let at = put_field::<10>(out, at, key.table as u64, b" ");
+    let at = put_field::<10>(out, at, key.key as u64, b" ");
+    let at = put_field::<20>(out, at, version.0, b" ");
+    put_field::<10>(out, at, kind as u64, b"\n")
 }

@@ -11,7 +11,6 @@ use crate::gather::gather;
 use crate::lines::{put_head, put_key};
 use crate::ranks::key_of;
 use record::{Record, Tables};
-use recovery::Lookup;
 use recovery::read::find;
 use segment::Key;
 
@@ -27,15 +26,8 @@ fn put_line(rec: Record, area: &[u8], index: &[u32], key: Key, out: &mut [u8], a
         last: table,
     };
     match find(rec, area, index, own, key) {
-        Lookup::Object {
-            place: _,
-            version,
-            kind,
-            length: _,
-        } => put_key(out, at, key, version, kind),
-        Lookup::Absent => at,
-        Lookup::Outside => at,
-        Lookup::Bad => at,
+        Ok(object) => put_key(out, at, key, object.version, object.kind),
+        Err(_) => at,
     }
 }
 
@@ -55,10 +47,8 @@ fn put_lines(
         (54 * length ranks.now) }
 {
     let mut end = at;
-    let mut i = 0;
-    while i < ranks.len() {
-        end = put_line(rec, area, index, key_of(ranks[i]), out, end);
-        i += 1;
+    for rank in ranks {
+        end = put_line(rec, area, index, key_of(*rank), out, end);
     }
     end
 }

@@ -1,5 +1,5 @@
 // The ranks of keys, in ascending order. A key's rank is table and key as one number.
-ghost use Rattle.std.specs.Prelude.{◌+◌, ◌*◌, ◌<◌, min, max, ◌≡◌, length, take};
+ghost use Rattle.std.specs.Prelude.{◌+◌, ◌*◌, ◌<◌, ◌≡◌, length, take};
 ghost use Rattle.report.specs.Ascent.{carried};
 ghost use Rattle.report.specs.Ordered.{rank, ranked};
 
@@ -22,31 +22,17 @@ pub fn key_of(rank: u64) -> Key
     }
 }
 
-fn lower(a: u64, b: u64) -> u64
-    ensures { result ≡ min a b }
-{
-    if a < b { a } else { b }
-}
-
-fn higher(a: u64, b: u64) -> u64
-    ensures { result ≡ max a b }
-{
-    if a < b { b } else { a }
-}
-
 // Puts a rank in its place among the first n, which ascend: it is carried along them, and at each place the lower one stays.
-// The contract leaves free what stands behind the first n + 1.
+// The contract leaves free what stands behind the first n + 1. A sorted list by hand, with its length beside it: there is no heap.
 pub fn insert(ranks: &mut [u64], n: usize, rank: u64)
     requires { n < length ranks.old }
     ensures { take (n + 1) ranks.new ≡ carried rank (take n ranks.old) }
 {
     let mut carry = rank;
-    let mut i = 0;
-    while i < n {
+    for i in 0..n {
         let met = ranks[i];
-        ranks[i] = lower(carry, met);
-        carry = higher(carry, met);
-        i += 1;
+        ranks[i] = carry.min(met);
+        carry = carry.max(met);
     }
     ranks[n] = carry;
 }

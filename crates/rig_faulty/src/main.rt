@@ -1,5 +1,6 @@
 // Reads one digit, 0 to 6, and prints all legal histories up to that length, and the first that recovers wrongly or `none` (02, R-14), for a copy whose
 // recovery takes the next version from log entries alone.
+// A twin of `rig` but for one argument: they are two programs by name, and a shared body would be no shorter.
 #![tactic(auto)]
 
 use rigging::ROOM;

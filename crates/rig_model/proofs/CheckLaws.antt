@@ -2,7 +2,7 @@
 use Prim.Native.Nat.{ℕ, ◌+◌, ◌*◌, ◌≤◌, ◌<◌, min}
 use Rattle.std.proofs.Math.Path.{◌≡◌, refl, sym, ap, subst}
 use Rattle.std.proofs.Common.{◌∙◌, true≢false, arith, drop_of_length-le, drop-cons, add-one, eq-eqb, ne_eqb}
-use Rattle.std.specs.Prelude.{Bool, true, false, not, length, get_or, drop}
+use Rattle.std.specs.Prelude.{Bool, true, false, not, length, get_or, drop, Ok, Err}
 use mathlib.Core.List.{List, [], ◌∷◌}
 use Rattle.std.proofs.Math.Option.{Option, none, some}
 use Rattle.std.proofs.Math.Dec.{eqb}
@@ -17,11 +17,8 @@ use Rattle.slot_map.specs.Bit.{named}
 use Rattle.record.specs.Range.{fits_lent}
 use Rattle.record.specs.RangeLaws.{lent}
 use Rattle.record.specs.Reach.{all_tables, all_hold}
-use Rattle.record.specs.declared.ReadAnswer.{ReadAnswer}
-use Rattle.record.specs.declared.Reading.{Reading}
+use Rattle.record.specs.Answered.{ReadAnswer, Reading, Recovery}
 use Rattle.record.specs.declared.Record.{Record}
-use Rattle.record.specs.declared.Recovery.{Recovery}
-use Rattle.record.specs.declared.RecoverAnswer.{RecoverAnswer}
 use Rattle.record.specs.declared.Refusal.{Refusal}
 use Rattle.record.specs.declared.Refusal.TheVariants.{Absent}
 use Rattle.model.specs.Log.{Placed, present, views_of, log_of, highest}
@@ -56,17 +53,17 @@ module _ (order area cells cells' : List ℕ) (r : Recovery) (good : order_bad 4
   answered : r ≡ recovery_for (first_cause (area_causes L 4 256 16 area)) (record_from L 4 256 16 area)
   answered = p.answers ∙ ap (λ (m : ℕ). recovery L 4 256 m order area) long ∙ order-free L 4 256 16 area order good
 
-  pub recovered-none : (c : Refusal) → r.answer ≡ RecoverAnswer.Refused c → recovered (image_layout 4 256 area) 4 256 16 area ≡ none
+  pub recovered-none : (c : Refusal) → r.answer ≡ Err c → recovered (image_layout 4 256 area) 4 256 16 area ≡ none
   unfolding if_none recovery_for
   recovered-none c e =
       own-recovered L 4 256 16 area refl
       ∙ go (first_cause (area_causes L 4 256 16 area)) (sym (ap (λ (x : Recovery). x.answer) answered) ∙ e)
     where
-      go : (o : Option Refusal) → (recovery_for o (record_from L 4 256 16 area)).answer ≡ RecoverAnswer.Refused c → if_none o (record_from L 4 256 16 area) ≡ none
+      go : (o : Option Refusal) → (recovery_for o (record_from L 4 256 16 area)).answer ≡ Err c → if_none o (record_from L 4 256 16 area) ≡ none
       go none q = let z : ◌≡◌ {A = ℕ} 0 1 = cc in absurd (omega arith)
       go (some d) q = refl
 
-  pub recovered-ready : Bytes area → r.answer ≡ RecoverAnswer.Recovered → Ready area r.rec cells'
+  pub recovered-ready : Bytes area → r.answer ≡ (Ok tt) → Ready area r.rec cells'
   unfolding IndexAfter
   recovered-ready bytes e =
       record {
@@ -117,11 +114,11 @@ module _ (area : List ℕ) (r : Record) (cells : List ℕ) (y : Ready area r cel
       told : a.answer ≡ read_answer (pick (key_absent log k) (some Absent) none) (present log k)
       told = p.exact (ready-genuine area r cells y) ∙ ap (λ (o : Option Refusal). read_answer o (present log k)) cause
 
-      pub absent-as : (c : Refusal) → a.answer ≡ ReadAnswer.Refused c → eqb held.version 0 ≡ key_as (present log k) held
+      pub absent-as : (c : Refusal) → a.answer ≡ Err c → eqb held.version 0 ≡ key_as (present log k) held
       unfolding key_as is_none pick read_answer present_answer
       absent-as c e = go (present log k) (sym told ∙ e)
         where
-          go : (x : Option Placed) → read_answer (pick (is_none x) (some Absent) none) x ≡ ReadAnswer.Refused c → eqb held.version 0 ≡ key_as x held
+          go : (x : Option Placed) → read_answer (pick (is_none x) (some Absent) none) x ≡ Err c → eqb held.version 0 ≡ key_as x held
           go none q = refl
           go (some x) q = let z : ◌≡◌ {A = ℕ} 0 1 = cc in absurd (omega arith)
 
@@ -131,26 +128,26 @@ module _ (area : List ℕ) (r : Record) (cells : List ℕ) (y : Ready area r cel
         pub is-present : present log k ≡ some object
         pub its-version : object.entry.version ≡ v
 
-      pub present-object : (v : Version) (kind : ℕ) → a.answer ≡ ReadAnswer.Present v kind → Object v.0
+      pub present-object : (v : Version) (kind : ℕ) → a.answer ≡ Ok (record { version = v; kind = kind }) → Object v.0
       unfolding is_none pick read_answer present_answer
       present-object v kind e = go (present log k) refl (sym told ∙ e)
         where
-          go : (x : Option Placed) → present log k ≡ x → read_answer (pick (is_none x) (some Absent) none) x ≡ ReadAnswer.Present v kind → Object v.0
+          go : (x : Option Placed) → present log k ≡ x → read_answer (pick (is_none x) (some Absent) none) x ≡ Ok (record { version = v; kind = kind }) → Object v.0
           go none f q = let z : ◌≡◌ {A = ℕ} 0 1 = cc in absurd (omega arith)
           go (some x) f q = record { object = x; is-present = f; its-version = ap version_of q }
             where
               version_of : ReadAnswer → ℕ
-              version_of (ReadAnswer.Present w n) = w.0
-              version_of (ReadAnswer.Refused d) = 0
+              version_of (Ok s) = s.version.0
+              version_of (Err d) = 0
 
-      pub version-differs : (v : Version) (kind : ℕ) → a.answer ≡ ReadAnswer.Present v kind → (v.0 ≡ held.version → ⊥) → false ≡ key_as (present log k) held
+      pub version-differs : (v : Version) (kind : ℕ) → a.answer ≡ Ok (record { version = v; kind = kind }) → (v.0 ≡ held.version → ⊥) → false ≡ key_as (present log k) held
       unfolding key_as
       version-differs v kind e n =
           let o = present-object v kind e in
           sym (ap (λ (x : Option Placed). key_as x held) o.is-present
           ∙ both-false-left (eqb o.object.entry.version held.version) _ (ne_eqb o.object.entry.version held.version (λ q. n (sym o.its-version ∙ q))))
 
-      pub value_as : (v : Version) (kind : ℕ) → a.answer ≡ ReadAnswer.Present v kind → v.0 ≡ held.version
+      pub value_as : (v : Version) (kind : ℕ) → a.answer ≡ Ok (record { version = v; kind = kind }) → v.0 ≡ held.version
           → (whole value : Bor (List ℕ)) → whole.now ≡ area → ValueReference r.edition r whole cells all_tables k value → (t : Bool) → t ≡ eight_are value.now held.byte
           → t ≡ key_as (present log k) held
       unfolding key_as both is_none pick value_answer

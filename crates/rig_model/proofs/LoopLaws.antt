@@ -1,19 +1,16 @@
 -- What the two loops of a run keep: the one over a letter's stores, and the one over a history's letters.
 -- What is proved of the definitions in `specs/LoopLaws.antt`.
-use Rattle.std.specs.Prelude.{ℕ, ◌+◌, ◌-◌, ◌%◌, ◌<◌, ◌≡◌, refl, Bool, true, false, List, length}
+use Rattle.std.specs.Prelude.{ℕ, ◌+◌, ◌-◌, ◌<◌, ◌≡◌, refl, Bool, true, false, List, [], ◌∷◌, length, Ok, Err}
 use Rattle.std.proofs.Common.{sym, ap, ◌∙◌, subst, length-set}
-use Rattle.std.proofs.Math.Option.{none}
 use Rattle.segment.specs.Choice.{either}
 use Rattle.record.specs.declared.Record.{Record}
 use Rattle.record.specs.declared.Refusal.{Refusal}
-use Rattle.record.specs.declared.Start.{Start}
-use Rattle.record.specs.declared.StartAnswer.{StartAnswer}
-use Rattle.record.specs.declared.Stepped.{Stepped}
+use Rattle.record.specs.Answered.{Start, Stepped}
 use Rattle.model.specs.Refused.{freely}
 use Rattle.model.specs.Promises.{StartPromise, StepPromise}
 use Rattle.histories.specs.declared.Letter.{Letter}
 use Rattle.histories.specs.declared.book.Book.{Book}
-use Rattle.histories.specs.Numbered.{word, Taken}
+use Rattle.histories.specs.Letters.{Word}
 use Rattle.histories.specs.Book.{finished}
 use Rattle.rig_model.specs.Verdict.{wrong_at, operation_at, record_at, word_wrong}
 use Rattle.rig_model.specs.RunLaws.{Ready, Under}
@@ -29,7 +26,7 @@ module _ (from_log : Bool) (l : Letter) (place : ℕ) (b : Book) (area : List �
   al : length area ≡ 1024
   al = area-long area r y.bytes y.recovers
 
-  pub play-refused : (c : Refusal) → a.answer ≡ StartAnswer.Refused c → Plays from_log l place area b area r cells b false
+  pub play-refused : (c : Refusal) → a.answer ≡ Err c → Plays from_log l place area b area r cells b false
   play-refused c e = plays-refused from_log l place area b r cells y work work' a (typed_at l place area r cells small y) al wl p c e
 
   own : r ≡ record_at area
@@ -41,7 +38,7 @@ module _ (from_log : Bool) (l : Letter) (place : ℕ) (b : Book) (area : List �
   p' : StartPromise (record_at area).edition freely (operation_on l place area) (record_at area) area cells work work' a
   p' = subst (λ (x : Record). StartPromise x.edition freely (operation_at l place x) x area cells work work' a) own p
 
-  pub play-starts : (stores : ℕ) → a.answer ≡ StartAnswer.Started stores → Playing from_log l place b area cells work' area cells a.rec stores
+  pub play-starts : (stores : ℕ) → a.answer ≡ Ok stores → Playing from_log l place b area cells work' area cells a.rec stores
   play-starts stores e =
       let s = plays-started from_log l place area b (record_at area) cells y' work work' a (typed_at l place area (record_at area) cells small y') al wl p' stores e in
       record {
@@ -81,22 +78,22 @@ module _ (from_log : Bool) (l : Letter) (place : ℕ) (b : Book) (before cells�
       (plays-ended from_log l place before b (record_at before) cells₀ i.ready i.accepted area r cells
       (cuts-end from_log before (record_at before) (operation_on l place before) b _ left _ e i.cuts) (i.under.ended e))
 
-module _ (from_log whole : Bool) (left rest place : ℕ) (area cells work : List ℕ) (r : Record) (b : Book) (i : Running from_log whole left rest place area cells work r b)
-    (unit : ℕ) (l : Letter) (t : Taken left rest unit l) (area' cells' work' : List ℕ) (r' : Record) (b' : Book) (wrong : Bool) (p : Plays from_log l (place + 1) area b area' r' cells' b' wrong) where
-  after-letter : whole ≡ either wrong (word_wrong from_log (word (left - 1) (rest % unit)) (place + 1 + 1) area' b')
-  after-letter = word-turn from_log whole left rest unit l (place + 1) area b area' r' cells' b' wrong t i.decides p
+module _ (from_log whole : Bool) (v w : Word) (place : ℕ) (area cells work : List ℕ) (r : Record) (b : Book) (i : Running from_log whole v place area cells work r b)
+    (l : Letter) (first : v ≡ l ∷ w) (area' cells' work' : List ℕ) (r' : Record) (b' : Book) (wrong : Bool) (p : Plays from_log l (place + 1) area b area' r' cells' b' wrong) where
+  after-letter : whole ≡ either wrong (word_wrong from_log w (place + 1 + 1) area' b')
+  after-letter = word-turn from_log whole v w l (place + 1) area b area' r' cells' b' wrong first i.decides p
 
   pub run-wrong : wrong ≡ true → true ≡ whole
   run-wrong e = word-wrong whole wrong _ after-letter e
 
-  pub run-turn : wrong ≡ false → length work' ≡ 256 → (r'' : Record) (b'' : Book) → r'' ≡ r' → b'' ≡ b' → Running from_log whole (left - 1) (rest % unit) (place + 1) area' cells' work' r'' b''
+  pub run-turn : wrong ≡ false → length work' ≡ 256 → (r'' : Record) (b'' : Book) → r'' ≡ r' → b'' ≡ b' → Running from_log whole w (place + 1) area' cells' work' r'' b''
   run-turn e wl r'' b'' q s =
       record {
         ready = subst (λ (x : Record). Ready area' x cells') (sym q) (p.ready e);
         work-long = wl;
-        decides = word-right whole wrong _ after-letter e ∙ ap (word_wrong from_log (word (left - 1) (rest % unit)) (place + 1 + 1) area') (sym s);
+        decides = word-right whole wrong _ after-letter e ∙ ap (word_wrong from_log w (place + 1 + 1) area') (sym s);
       }
 
-pub run_end : (from_log whole : Bool) (left rest place : ℕ) (area cells work : List ℕ) (r : Record) (b : Book) → Running from_log whole left rest place area cells work r b → left ≡ 0
+pub run_end : (from_log whole : Bool) (v : Word) (place : ℕ) (area cells work : List ℕ) (r : Record) (b : Book) → Running from_log whole v place area cells work r b → v ≡ []
     → (t : Bool) → t ≡ wrong_at from_log area b → t ≡ whole
-run_end from_log whole left rest place area cells work r b i e t q = word_end from_log whole left rest (place + 1) area b e i.decides t q
+run_end from_log whole v place area cells work r b i e t q = word_end from_log whole v (place + 1) area b e i.decides t q

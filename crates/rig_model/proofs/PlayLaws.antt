@@ -1,9 +1,9 @@
 -- Laws of the loops that play a letter, a history and all histories.
 -- What is proved of the definitions in `specs/PlayLaws.antt`.
-use Prim.Native.Nat.{ℕ, zero, suc, ◌+◌, ◌-◌, ◌%◌, ◌^◌, ◌≤◌, ◌<◌}
+use Prim.Native.Nat.{ℕ, zero, suc, ◌+◌, ◌-◌, ◌^◌, ◌≤◌, ◌<◌}
 use Rattle.std.proofs.Math.Path.{◌≡◌, refl, ap}
 use Rattle.std.proofs.Common.{sym, ◌∙◌, subst, lit<}
-use Rattle.std.specs.Prelude.{Bool}
+use Rattle.std.specs.Prelude.{Bool, Ok, Err}
 use Rattle.std.proofs.Math.Bool.{true, false}
 use mathlib.Core.List.{List, [], ◌∷◌, ◌++◌}
 use Rattle.std.proofs.Math.Option.{Option, none, some}
@@ -16,13 +16,10 @@ use Rattle.record.specs.RangeLaws.{lent}
 use Rattle.segment.specs.declared.Key.{Key}
 use Rattle.record.specs.Range.{between, cells_good}
 use Rattle.record.specs.Reach.{all_tables}
-use Rattle.record.specs.declared.FormatAnswer.{FormatAnswer}
+use Rattle.record.specs.Answered.{FormatAnswer, Recovery, Start}
 use Rattle.record.specs.declared.Record.{Record}
-use Rattle.record.specs.declared.Recovery.{Recovery}
 use Rattle.record.specs.declared.Tables.{Tables}
 use Rattle.record.specs.declared.Refusal.{Refusal}
-use Rattle.record.specs.declared.Start.{Start}
-use Rattle.record.specs.declared.StartAnswer.{StartAnswer}
 use Rattle.model.specs.Operations.{Operation, write, delete, clean, Typed, stored, formatted, formatted_as}
 use Rattle.model.specs.Causes.{first_cause}
 use Rattle.model.specs.Recovery.{image_layout, recovered, recovery, record_from, geometry_bad}
@@ -36,7 +33,6 @@ use Rattle.histories.specs.declared.Letter.{Letter}
 use Rattle.histories.specs.declared.Letter.TheVariants.{WriteA, WriteB, DeleteA, DeleteB, CleanAll}
 use Rattle.histories.specs.declared.book.Book.{Book}
 use Rattle.histories.specs.Letters.{Word}
-use Rattle.histories.specs.Numbered.{word, Taken, taken}
 use Rattle.histories.specs.Book.{first_key, second_key, finished, fresh_book}
 use Rattle.rig_model.specs.Verdict.{wrong_at, operation_at, cause_at, cuts_wrong, refuses, record_at, word_wrong, history_wrong, first_wrong}
 use Rattle.rig_model.specs.RunLaws.{Ready, Ended, Under}
@@ -89,12 +85,12 @@ module _ (from_log : Bool) (l : Letter) (place : ℕ) (area : List ℕ) (b : Boo
 
   module _ (work work' : List ℕ) (a : Start) (ty : Typed o) (al : length area ≡ 1024) (wl : length work ≡ 256) (p : StartPromise r.edition freely o r area cells work work' a) where
     -- refused
-    pub plays-refused : (c : Refusal) → a.answer ≡ StartAnswer.Refused c → Plays from_log l place area b area r cells b false
+    pub plays-refused : (c : Refusal) → a.answer ≡ Err c → Plays from_log l place area b area r cells b false
     plays-refused c e = go (cause_at area r o) refl
       where
         go : (x : Option Refusal) → cause_at area r o ≡ x → Plays from_log l place area b area r cells b false
         go none f =
-            let s : StartAnswer.Started n ≡ StartAnswer.Refused c = sym (start-stores o ty area r cells work work' a y al wl p f) ∙ e in
+            let s : Ok n ≡ Err c = sym (start-stores o ty area r cells work work' a y al wl p f) ∙ e in
             let z : ◌≡◌ {A = ℕ} 0 1 = cc in absurd (omega arith)
         go (some d) f =
             record {
@@ -108,16 +104,16 @@ module _ (from_log : Bool) (l : Letter) (place : ℕ) (area : List ℕ) (b : Boo
       pub count : stores ≡ n
       pub under : Under area r o stores area a.rec cells work'
 
-    pub plays-started : (stores : ℕ) → a.answer ≡ StartAnswer.Started stores → Begins stores
+    pub plays-started : (stores : ℕ) → a.answer ≡ Ok stores → Begins stores
     plays-started stores e = go (cause_at area r o) refl
       where
         go : (x : Option Refusal) → cause_at area r o ≡ x → Begins stores
         go none f =
-            let s : StartAnswer.Started n ≡ StartAnswer.Started stores = sym (start-stores o ty area r cells work work' a y al wl p f) ∙ e in
+            let s : Ok n ≡ Ok stores = sym (start-stores o ty area r cells work work' a y al wl p f) ∙ e in
             let same : stores ≡ n = cc in
             record { accepted = f; count = same; under = subst (λ (x : ℕ). Under area r o x area a.rec cells work') (sym same) (start_under o ty area r cells work work' a y al wl p f) }
         go (some d) f =
-            let s : StartAnswer.Refused d ≡ StartAnswer.Started stores = sym (start-refused o ty area r cells work work' a y al wl p d f) ∙ e in
+            let s : Err d ≡ Ok stores = sym (start-refused o ty area r cells work work' a y al wl p d f) ∙ e in
             let z : ◌≡◌ {A = ℕ} 0 1 = cc in absurd (omega arith)
 
   -- ---- its cuts
@@ -194,11 +190,11 @@ cuts-end from_log area r o b k left whole e w = w ∙ ap (cuts_wrong from_log ar
 
 -- ---- the loop over the letters
 
-pub word-turn : (from_log : Bool) (whole : Bool) (left rest unit : ℕ) (l : Letter) (place : ℕ) (area : List ℕ) (b : Book) (area' : List ℕ) (r' : Record) (cells' : List ℕ) (b' : Book) (wrong : Bool)
-    → Taken left rest unit l → whole ≡ word_wrong from_log (word left rest) place area b → Plays from_log l place area b area' r' cells' b' wrong
-    → whole ≡ either wrong (word_wrong from_log (word (left - 1) (rest % unit)) (place + 1) area' b')
-word-turn from_log whole left rest unit l place area b area' r' cells' b' wrong t w p =
-    w ∙ ap (λ (v : Word). word_wrong from_log v place area b) (taken left rest unit l t) ∙ p.decides (word (left - 1) (rest % unit))
+pub word-turn : (from_log : Bool) (whole : Bool) (v w : Word) (l : Letter) (place : ℕ) (area : List ℕ) (b : Book) (area' : List ℕ) (r' : Record) (cells' : List ℕ) (b' : Book) (wrong : Bool)
+    → v ≡ l ∷ w → whole ≡ word_wrong from_log v place area b → Plays from_log l place area b area' r' cells' b' wrong
+    → whole ≡ either wrong (word_wrong from_log w (place + 1) area' b')
+word-turn from_log whole v w l place area b area' r' cells' b' wrong first h p =
+    h ∙ ap (λ (x : Word). word_wrong from_log x place area b) first ∙ p.decides w
 
 pub word-wrong : (whole wrong rest : Bool) → whole ≡ either wrong rest → wrong ≡ true → true ≡ whole
 unfolding either
@@ -212,9 +208,9 @@ pub word-start : (from_log : Bool) (w : Word) (area : List ℕ) (b : Book) → a
 unfolding history_wrong
 word-start from_log w area b e f = λ i. word_wrong from_log w 1 (sym e i) (sym f i)
 
-pub word_end : (from_log : Bool) (whole : Bool) (left rest place : ℕ) (area : List ℕ) (b : Book) → left ≡ 0 → whole ≡ word_wrong from_log (word left rest) place area b → (t : Bool) → t ≡ wrong_at from_log area b → t ≡ whole
-unfolding word_wrong word
-word_end from_log whole left rest place area b e w t i = i ∙ sym (w ∙ ap (λ (k : ℕ). word_wrong from_log (word k rest) place area b) e)
+pub word_end : (from_log : Bool) (whole : Bool) (v : Word) (place : ℕ) (area : List ℕ) (b : Book) → v ≡ [] → whole ≡ word_wrong from_log v place area b → (t : Bool) → t ≡ wrong_at from_log area b → t ≡ whole
+unfolding word_wrong
+word_end from_log whole v place area b e h t i = i ∙ sym (h ∙ ap (λ (x : Word). word_wrong from_log x place area b) e)
 
 -- ---- the loops over the histories
 

@@ -1,7 +1,7 @@
 -- Laws of a run: what the promises of start and step give on a store that is idle and recovered, and on one whose operation is under way.
 -- What is proved of the definitions in `specs/RunLaws.antt`.
 use Prim.Native.Nat.{ℕ, suc, ◌+◌, ◌-◌, ◌≤◌, ◌<◌}
-use Rattle.std.specs.Prelude.{◌≡◌, Bool, true, false, not, length}
+use Rattle.std.specs.Prelude.{◌≡◌, Bool, true, false, not, length, Ok, Err}
 use Rattle.std.proofs.Math.Path.{refl, ap, subst, subst⁻¹}
 use Rattle.std.proofs.Common.{sym, ◌∙◌, arith, take_all, le-ltb, le-leb}
 use mathlib.Core.List.{List, [], ◌∷◌}
@@ -22,9 +22,7 @@ use Rattle.record.specs.declared.Pending.TheVariants.{Idle}
 use Rattle.record.specs.declared.Record.{Record}
 use Rattle.record.specs.declared.Refusal.{Refusal}
 use Rattle.record.specs.declared.Refusal.TheVariants.{BadRecord, WorkShort, NonePending}
-use Rattle.record.specs.declared.Start.{Start}
-use Rattle.record.specs.declared.StartAnswer.{StartAnswer}
-use Rattle.record.specs.declared.Stepped.{Stepped}
+use Rattle.record.specs.Answered.{Start, Stepped}
 use Rattle.model.specs.Log.{Placed}
 use Rattle.model.specs.Causes.{when, first_cause}
 use Rattle.model.specs.Recovery.{image_layout, recovered}
@@ -248,7 +246,7 @@ module _ (o : Operation) (ty : Typed o) (area : List ℕ) (r : Record) (cells wo
   start-exactly = p.exact (ready-genuine area r cells y) ∙ ap (λ (l : Lengths). begun r.edition r (log_now area r) o work (first_cause (start_causes r.edition r (log_now area r) l freely o))) (λ i. record { area = al i; index = y.long i; work = wl i })
 
   module _ (c : Refusal) (e : cause_at area r o ≡ some c) where
-    pub start-refused : a.answer ≡ StartAnswer.Refused c
+    pub start-refused : a.answer ≡ Err c
     unfolding begun
     start-refused = ap (λ (x : Begun). x.start.answer) (start-exactly ∙ ap (begun r.edition r (log_now area r) o work) e)
 
@@ -256,7 +254,7 @@ module _ (o : Operation) (ty : Typed o) (area : List ℕ) (r : Record) (cells wo
     started-all : record { start = a; work = work' } ≡ begun r.edition r (log_now area r) o work none
     started-all = start-exactly ∙ ap (begun r.edition r (log_now area r) o work) e
 
-    pub start-stores : a.answer ≡ StartAnswer.Started (length (plan_at r.edition area r o))
+    pub start-stores : a.answer ≡ Ok (length (plan_at r.edition area r o))
     unfolding begun
     start-stores = ap (λ (x : Begun). x.start.answer) started-all
 

@@ -1,13 +1,12 @@
 -- What the two loops of a run keep: the one over a letter's stores, and the one over a history's letters.
-use Rattle.std.specs.Prelude.{ℕ, ◌+◌, ◌-◌, ◌%◌, ◌<◌, ◌≡◌, refl, Bool, true, false, List, length}
-use Rattle.std.proofs.Common.{sym, ap, ◌∙◌, subst, length-set}
+use Rattle.std.specs.Prelude.{ℕ, ◌+◌, ◌-◌, ◌≡◌, Bool, List, length}
 use Rattle.std.proofs.Math.Option.{none}
 use Rattle.record.specs.declared.Record.{Record}
 use Rattle.model.specs.Operations.{Operation}
 use Rattle.laws.specs.Operated.{plan_at}
 use Rattle.histories.specs.declared.Letter.{Letter}
 use Rattle.histories.specs.declared.book.Book.{Book}
-use Rattle.histories.specs.Numbered.{word}
+use Rattle.histories.specs.Letters.{Word}
 use Rattle.rig_model.specs.Verdict.{operation_at, cause_at, cuts_wrong, record_at, word_wrong}
 use Rattle.rig_model.specs.RunLaws.{Ready, Under}
 
@@ -31,7 +30,7 @@ pub record Playing (from_log : Bool) (l : Letter) (place : ℕ) (b : Book) (befo
 
 -- ---- the letters of a history
 
-pub record Running (from_log whole : Bool) (left rest place : ℕ) (area cells work : List ℕ) (r : Record) (b : Book) : Type 0 where
+pub record Running (from_log whole : Bool) (left : Word) (place : ℕ) (area cells work : List ℕ) (r : Record) (b : Book) : Type 0 where
   pub ready : Ready area r cells
   pub work-long : length work ≡ 256
-  pub decides : whole ≡ word_wrong from_log (word left rest) (place + 1) area b
+  pub decides : whole ≡ word_wrong from_log left (place + 1) area b

@@ -11,7 +11,7 @@ use Rattle.segment.specs.Layout.{Layout}
 use Rattle.record.specs.Answers.{with_pending}
 use Rattle.record.specs.Range.{between, left_good}
 use Rattle.record.specs.declared.Record.{Record}
-use Rattle.record.specs.declared.Stepped.{Stepped}
+use Rattle.record.specs.Answered.{Stepped}
 use Rattle.model.specs.Recovery.{recovered}
 use Rattle.model.specs.Index.{IndexRule}
 use Rattle.model.specs.Operations.{Operation, log_now, Laid, laid, stored}

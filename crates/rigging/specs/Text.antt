@@ -4,27 +4,22 @@ use Rattle.std.proofs.Math.Path.{sym, ap}
 use Rattle.std.proofs.Common.{◌∙◌, subst, add-one, arith}
 use mathlib.Core.List.{List, [], ◌∷◌, ◌++◌}
 use Rattle.std.proofs.Math.Option.{Option, none, some}
+use Rattle.std.specs.Prelude.{Option as Verdict, None, Some}
 use Rattle.std.proofs.Math.Decide.{dec_lt}
 use borrow.Author.Tests.{eq-eqb, ne_eqb, lt-ltb, le-ltb}
 use Rattle.segment.specs.Choice.{pick, both}
 use Rattle.text.specs.Put.{Put, put-none, put_same}
+use Rattle.histories.specs.declared.WordNumber.{WordNumber}
 use Rattle.histories.specs.Letters.{Word, legal}
 use Rattle.histories.specs.List.{legal_ones, histories_of, histories}
 use Rattle.histories.specs.Numbered.{word, numbered, words-numbered, shorter, histories-shorter}
 use Rattle.rig_model.specs.Verdict.{history_wrong, first_wrong, text_for, rig_text}
 use Rattle.rig_model.proofs.PlayLaws.{first-append, first_found}
-use Rattle.rigging.specs.declared.Verdict.{Verdict}
-use Rattle.rigging.specs.declared.Verdict.TheVariants.{Wrong, Nothing}
 
 -- the history that a verdict names
-abbrev pub named : Verdict → Option Word
-named (Wrong k n) = some (word k n)
-named Nothing = none
-
--- it has at most six letters
-abbrev pub Short : Verdict → Type 0
-Short (Wrong k n) = k ≤ 6
-Short Nothing = Unit {0}
+abbrev pub named : Verdict WordNumber → Option Word
+named None = none
+named (Some w) = some (word w.letters w.number)
 
 -- In a buffer that is too short nothing is put.
 abbrev pub put_text : Bool → List ℕ → ℕ → List ℕ

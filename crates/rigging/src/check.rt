@@ -2,6 +2,7 @@
 ghost use Rattle.std.specs.Prelude.{◌<◌, ◌≡◌};
 ghost use Rattle.std.proofs.Math.Option.{some};
 ghost use Rattle.word.specs.Number.{Bytes};
+ghost use Rattle.record.specs.Reach.{all_tables};
 ghost use Rattle.model.specs.Log.{present};
 ghost use Rattle.model.specs.Operations.{log_now};
 ghost use Rattle.model.specs.Recovery.{recovered};
@@ -11,27 +12,26 @@ ghost use Rattle.rig_model.specs.RunLaws.{Ready};
 use drive_log::survey::survey;
 use histories::book;
 use histories::book::{Book, Held};
-use record::{ReadAnswer, Record, RecoverAnswer, Tables};
+use record::{Record, Tables};
 use report::gather::gather;
 use segment::Key;
 use segment::layout::version_limit;
 use store::{read, read_value, recover};
 
+pub fn all_tables() -> Tables
+    ensures { result ≡ all_tables }
+{
+    Tables {
+        first: 0,
+        last: 65535,
+    }
+}
+
 // Whether these are eight bytes, all this one.
 fn all_are(bytes: &[u8], byte: u8) -> bool
     ensures { result ≡ eight_are bytes.now byte }
 {
-    if bytes.len() != 8 {
-        return false;
-    }
-    let mut i = 0;
-    while i < bytes.len() {
-        if bytes[i] != byte {
-            return false;
-        }
-        i += 1;
-    }
-    true
+    bytes.len() == 8 && bytes.iter().all(|b| *b == byte)
 }
 
 // Whether a key has the version and the value of the book, or is absent where the book has nothing of it.
@@ -39,16 +39,13 @@ fn key_as(rec: Record, area: &[u8], index: &[u32], key: Key, held: Held) -> bool
     requires { Ready area.now rec index.now × (key.table < 65536) }
     ensures { result ≡ key_as (present (log_now area.now rec) key) held }
 {
-    let tables = Tables {
-        first: 0,
-        last: 65535,
-    };
+    let tables = all_tables();
     let reading = read(rec, area, index, tables, key);
     let answer = reading.answer;
     match answer {
-        ReadAnswer::Refused(_) => held.version == 0,
-        ReadAnswer::Present { version, kind: _ } => {
-            if version.0 != held.version {
+        Err(_) => held.version == 0,
+        Ok(present) => {
+            if present.version.0 != held.version {
                 return false;
             }
             all_are(read_value(rec, area, index, tables, key), held.byte)
@@ -67,12 +64,7 @@ fn next_of(rec: Record, area: &[u8], faulty: bool) -> u64
     }
     let passed = survey(4, 256, area, rec.map);
     let highest = passed.highest;
-    let edition = rec.edition;
-    let limit = version_limit(edition);
-    if limit <= highest.0 {
-        return limit;
-    }
-    highest.0 + 1
+    highest.0.saturating_add(1).min(version_limit(rec.edition))
 }
 
 // Whether a recovered store is the book's.
@@ -87,12 +79,8 @@ fn store_as(rec: Record, area: &[u8], index: &[u32], book: Book, faulty: bool) -
     if gather(area, index, &mut ranks) != book::count(book) {
         return false;
     }
-    let first = book.first;
-    let second = book.second;
-    if !key_as(rec, area, index, book::first_key(), first) {
-        return false;
-    }
-    key_as(rec, area, index, book::second_key(), second)
+    key_as(rec, area, index, book::first_key(), book.first)
+        && key_as(rec, area, index, book::second_key(), book.second)
 }
 
 // Whether recovery of what a cut leaves is refused or gives another store than the book's.
@@ -104,7 +92,7 @@ pub fn recovers_wrongly(area: &[u8], book: Book, faulty: bool) -> bool
     let answer = recovery.answer;
     let rec = recovery.rec;
     match answer {
-        RecoverAnswer::Refused(_) => true,
-        RecoverAnswer::Recovered => !store_as(rec, area, &index, book, faulty),
+        Err(_) => true,
+        Ok(()) => !store_as(rec, area, &index, book, faulty),
     }
 }

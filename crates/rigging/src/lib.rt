@@ -9,10 +9,10 @@ ghost use Rattle.histories.specs.Letters.{legal};
 ghost use Rattle.histories.specs.List.{histories_of, histories};
 ghost use Rattle.histories.specs.Numbered.{word};
 ghost use Rattle.rig_model.specs.Verdict.{history_wrong, first_wrong, verdict_line};
-ghost use Rattle.rigging.specs.Text.{named, Short, put_text};
+ghost use Rattle.rigging.specs.Text.{named, put_text};
 
 use crate::run::is_wrong;
-use histories::{is_legal, put_histories, put_word, words};
+use histories::{WordNumber, put_histories, words};
 use text::put;
 
 mod check;
@@ -21,66 +21,47 @@ mod run;
 // No text is longer.
 pub const ROOM: usize = 137000;
 
-// Which history recovers wrongly, by its length and its number among the words of that length.
-#[derive(Clone, Copy)]
-pub enum Verdict {
-    Wrong(u32, u32),
-    Nothing,
-}
-
 // Whether a word is a history and recovers wrongly.
-fn is_found(letters: u32, number: u32, faulty: bool) -> bool
-    requires { letters ≤ 6 }
-    ensures { result ≡ both (legal (word letters number)) (history_wrong faulty (word letters number)) }
+fn is_found(w: WordNumber, faulty: bool) -> bool
+    ensures { result ≡ both (legal (word w.letters w.number)) (history_wrong faulty (word w.letters w.number)) }
 {
-    if !is_legal(letters, number) {
-        return false;
-    }
-    is_wrong(letters, number, faulty)
+    w.is_legal() && is_wrong(w, faulty)
 }
 
 // The first of one length that recovers wrongly.
-fn first_of(letters: u32, faulty: bool) -> Verdict
+fn first_of(letters: u32, faulty: bool) -> Option<WordNumber>
     requires { letters ≤ 6 }
-    ensures { (named result ≡ first_wrong faulty (histories_of letters)) × Short result }
+    ensures { named result ≡ first_wrong faulty (histories_of letters) }
 {
-    let all = words(letters);
-    let mut number = 0;
-    while number < all {
-        if is_found(letters, number, faulty) {
-            return Verdict::Wrong(letters, number);
+    for number in 0..words(letters) {
+        let w = WordNumber { letters, number };
+        if is_found(w, faulty) {
+            return Some(w);
         }
-        number += 1;
     }
-    Verdict::Nothing
+    None
 }
 
 // The first of those up to a length.
-fn first_wrong(longest: u32, faulty: bool) -> Verdict
+fn first_wrong(longest: u32, faulty: bool) -> Option<WordNumber>
     requires { longest ≤ 6 }
-    ensures { (named result ≡ first_wrong faulty (histories longest)) × Short result }
+    ensures { named result ≡ first_wrong faulty (histories longest) }
 {
-    let mut letters = 0;
-    while letters <= longest {
-        match first_of(letters, faulty) {
-            Verdict::Wrong(length, number) => {
-                return Verdict::Wrong(length, number);
-            }
-            Verdict::Nothing => {
-                letters += 1;
-            }
+    for letters in 0..=longest {
+        if let Some(w) = first_of(letters, faulty) {
+            return Some(w);
         }
     }
-    Verdict::Nothing
+    None
 }
 
-fn put_verdict(out: &mut [u8], at: usize, verdict: Verdict) -> usize
-    requires { (at + 7 ≤ length out.old) × Short verdict }
+fn put_verdict(out: &mut [u8], at: usize, verdict: Option<WordNumber>) -> usize
+    requires { at + 7 ≤ length out.old }
     ensures { Put out.old out.new at result (verdict_line (named verdict)) × (result ≤ at + 7) }
 {
     match verdict {
-        Verdict::Nothing => put(out, at, b"none\n"),
-        Verdict::Wrong(letters, number) => put_word(out, at, letters, number),
+        None => put(out, at, b"none\n"),
+        Some(w) => w.put(out, at),
     }
 }
 

@@ -1,13 +1,15 @@
 -- What a walk over the log has seen of a key is the newest entry of the key.
 use Rattle.std.specs.Prelude.{ℕ, ◌+◌, ◌*◌, ◌≤◌, ◌<◌, ◌≡◌, Bool, eqb, ltb, length, get_or, take, drop}
 use Rattle.std.proofs.Math.Path.{refl, sym, ap}
-use Rattle.std.proofs.Common.{◌∙◌, ap₂}
-use Rattle.std.proofs.Math.Bool.{true, false}
+use Rattle.std.proofs.Common.{◌∙◌, ap₂, is_lt, nat_cmp, Ordering, Less, Equal, Greater, le-ltb}
+use Rattle.std.proofs.Math.Bool.{true, false, not, not-not, ◌&&◌}
+use Rattle.std.specs.Cmp.{ranks}
+use Rattle.std.specs.Ordering.{MatchOrdering}
 use mathlib.Core.List.Memᴰ
 use mathlib.Core.List.{List, [], ◌∷◌, ◌++◌, append-nil}
 use Rattle.std.proofs.Math.Option.{Option, none, some}
 use native.Mathlib.Omega.{arith}
-use borrow.Author.Tests.{ltb-true, ltb-false, lt-ltb, eq-eqb, ne_eqb}
+use borrow.Author.Tests.{ltb-true, ltb-false, lt-ltb, ne_eqb}
 use Rattle.word.specs.Number.{number_of}
 use Rattle.segment.specs.Choice.{pick, both}
 use Rattle.segment.proofs.Choice.{pick_true, pick-false, both-false-right}
@@ -33,15 +35,26 @@ use Rattle.drive_log.specs.Surveys.{after, after_none, after_first}
 use Rattle.scanning.specs.Seeing.{seen_with, seen_next, seeing, seen_in, seen_of}
 use Rattle.scanning.specs.declared.Seen.{Seen}
 
--- ---- whether two keys are one, at each test of the code
+-- ---- whether two keys are one, by the code's test
 
-pub same-table : (a b : Key) → a.table ≡ b.table → eqb a.key b.key ≡ same_keys a b
-unfolding same_keys both
-same-table a b e = rw (eq-eqb a.table b.table e) refl
+and-both : (x y : Bool) → (x && y) ≡ both x y
+unfolding both
+and-both true y = refl
+and-both false y = refl
 
-pub other-table : (a b : Key) → (a.table ≡ b.table → ⊥) → eqb a.table b.table ≡ same_keys a b
-unfolding same_keys both
-other-table a b e = rw (ne_eqb a.table b.table e) refl
+pub key-test : (a b : Key) {t u : Bool} → t ≡ not (eqb a.table b.table && eqb a.key b.key) → t ≡ u → same_keys a b ≡ not u
+unfolding same_keys
+key-test a b e h = sym (and-both _ _) ∙ sym (not-not _) ∙ ap not (sym e ∙ h)
+
+-- ---- whether a version is above another, by the code's test
+
+pub version-test : (a b : ℕ) {t u : Bool} → t ≡ is_lt (nat_cmp a b) → t ≡ u → ltb a b ≡ u
+version-test a b e h = sym (go (nat_cmp a b) refl (ranks a b)) ∙ sym e ∙ h
+  where
+    go : (o : Ordering) → nat_cmp a b ≡ o → MatchOrdering o (a < b) (a ≡ b) (b < a) → is_lt (nat_cmp a b) ≡ ltb a b
+    go Less p l = ap is_lt p ∙ sym (lt-ltb a b l)
+    go Equal p l = ap is_lt p ∙ sym (le-ltb a b (omega arith))
+    go Greater p l = ap is_lt p ∙ sym (le-ltb a b (omega arith))
 
 -- ---- one entry more, at each test of the code
 

@@ -1,5 +1,5 @@
 -- What is found of a key by a scan is what is promised.
-use Rattle.std.specs.Prelude.{ℕ, ◌+◌, ◌*◌, ◌-◌, ◌≤◌, ◌<◌, Bool, true, List, [], ◌∷◌, ◌++◌, length}
+use Rattle.std.specs.Prelude.{ℕ, ◌+◌, ◌*◌, ◌-◌, ◌≤◌, ◌<◌, Bool, true, List, [], ◌∷◌, ◌++◌, length, Ok, Err}
 use Rattle.std.proofs.Common.{mul-le-mul, ◌∙◌}
 use Rattle.std.proofs.Math.Path.{◌≡◌, refl, sym, ap, subst}
 use Rattle.std.proofs.Math.Bool.{false, not}
@@ -18,6 +18,7 @@ use Rattle.segment.specs.declared.Key.{Key}
 use Rattle.segment.specs.declared.Read.{Read}
 use Rattle.segment.specs.declared.Version.{Version}
 use Rattle.slot_map.specs.Bit.{named}
+use Rattle.record.specs.AnswerLaws.{ok-same}
 use Rattle.record.specs.Answers.{read_said}
 use Rattle.record.specs.Reach.{holds_table}
 use Rattle.record.specs.declared.Refusal.{Refusal}
@@ -40,15 +41,14 @@ use Rattle.index.proofs.BuildLaws.{log-reads}
 use Rattle.recovery.specs.FormatLaws.{geometry-fits}
 use Rattle.recovery.specs.LookupLaws.{ObjectInside}
 use Rattle.recovery.proofs.LookupLaws.{stands_at_lem, placed-layout}
+use Rattle.recovery.specs.declared.Object.{Object}
 use Rattle.recovery.specs.Recovering.{image_for, image_of}
 use Rattle.recovery.specs.RecoverPromises.{SoundImage}
 use Rattle.recovery.proofs.RecoverPromises.{sound-image, image-scans}
-use Rattle.recovery.specs.declared.Image.{Image}
 use Rattle.scanning.specs.Seeing.{seen_of}
-use Rattle.scanning.specs.Seeking.{sought_read, sought_object, sought_as, sought_in, sought, answer_of, part_for}
+use Rattle.scanning.specs.Seeking.{sought_read, sought_object, sought_as, sought_in, sought, answer_of, part_for, Sought}
 use Rattle.scanning.specs.SeeingLaws.{seen_below, seen-newest}
 use Rattle.scanning.specs.declared.Seen.{Seen}
-use Rattle.scanning.specs.declared.Sought.{Sought}
 
 -- an area of the greatest N and S
 area-short : {n s : ℕ} {area : List ℕ} → Shape n s area → length area ≤ 65536
@@ -82,7 +82,7 @@ module _ (area : List ℕ) (S : ℕ) (p : ℕ → Bool) (n : ℕ) (scans : AllSc
   abbrev gone : Cause
   gone = when (key_absent log k) Refusal.Absent
 
-  pub seek-outside : holds_table t k.table ≡ false → Sought.Refused Refusal.OutsideTables ≡ sought_in S log t k
+  pub seek-outside : holds_table t k.table ≡ false → Err Refusal.OutsideTables ≡ sought_in S log t k
   unfolding sought_as
   seek-outside e =
       ap (λ (c : Option Refusal). sought_as S c (present log k))
@@ -105,10 +105,10 @@ module _ (area : List ℕ) (S : ℕ) (p : ℕ → Bool) (n : ℕ) (scans : AllSc
       newest-is = is ∙ seen-newest S k log versions-above
 
       -- no version seen: no entry of the key
-      pub seek-none : now.version.0 ≡ 0 → Sought.Refused Refusal.Absent ≡ sought_in S log t k
+      pub seek-none : now.version.0 ≡ 0 → Err Refusal.Absent ≡ sought_in S log t k
       seek-none e = go (latest log k) refl ∙ seek-object
         where
-          go : (o : Option Placed) → latest log k ≡ o → Sought.Refused Refusal.Absent ≡ sought_object S (present log k)
+          go : (o : Option Placed) → latest log k ≡ o → Err Refusal.Absent ≡ sought_object S (present log k)
           go none q = unfold present object_only sought_object in sym (ap (λ (o : Option Placed). sought_object S (object_only o)) q)
           go (some x) q =
               let same : now.version.0 ≡ x.entry.version =
@@ -156,11 +156,11 @@ module _ (n s : ℕ) (area : List ℕ) (t : Tables) (k : Key) (g : geometry_bad 
   abbrev here : Option Placed
   here = present (image_log n s area) k
 
-  pub seek-refused : (c : Refusal) → image_of false (views_of area s) n ≡ Image.Refused c → Sought.Refused c ≡ sought its n s area t k
+  pub seek-refused : (c : Refusal) → image_of false (views_of area s) n ≡ Err c → Err c ≡ sought its n s area t k
   unfolding sought_as image_for
   seek-refused c e = ap (λ (x : Option Refusal). sought_as s x here) (sym (go (first_cause found) refl e))
     where
-      go : (o : Option Refusal) → first_cause found ≡ o → image_for (views_of area s) n (head_else (head_of (views_of area s) n)) o ≡ Image.Refused c
+      go : (o : Option Refusal) → first_cause found ≡ o → image_for (views_of area s) n (head_else (head_of (views_of area s) n)) o ≡ Err c
           → first_cause (scan_causes its n s area t k) ≡ some c
       go none p q = let z : ◌≡◌ {A = ℕ} 0 1 = cc in absurd (omega arith)
       go (some b) p q =
@@ -168,7 +168,7 @@ module _ (n s : ℕ) (area : List ℕ) (t : Tables) (k : Key) (g : geometry_bad 
           cause-skip (when (geometry_bad n s (length area)) Refusal.Geometry) (found ++ sought_causes (image_log n s area) t k) g ∙
           first_some found (sought_causes (image_log n s area) t k) c (p ∙ ap some same)
 
-  module _ (L : Layout) (i : ℕ) (d : Digest) (top : Version) (sound : image_of false (views_of area s) n ≡ Image.Sound L i d top) where
+  module _ (L : Layout) (i : ℕ) (d : Digest) (top : Version) (sound : image_of false (views_of area s) n ≡ Ok (record { edition = L; slot = i; digest = d; highest = top })) where
     one : SoundImage false L (views_of area s) n i d top
     one = sound-image false L (views_of area s) n i d top sound
 
@@ -191,7 +191,7 @@ module _ (L : Layout) (n s : ℕ) (area : List ℕ) (t : Tables) (k : Key) where
   abbrev cause : Option Refusal
   cause = first_cause (scan_causes L n s area t k)
 
-  pub seek-geometry : geometry_bad n s (length area) ≡ true → Sought.Refused Refusal.Geometry ≡ sought L n s area t k
+  pub seek-geometry : geometry_bad n s (length area) ≡ true → Err Refusal.Geometry ≡ sought L n s area t k
   unfolding sought_as
   seek-geometry e = ap (λ (c : Option Refusal). sought_as s c object) (sym (cause-first (when (geometry_bad n s (length area)) Refusal.Geometry) _ e))
 
@@ -243,33 +243,45 @@ module _ (L : Layout) (n s : ℕ) (area : List ℕ) (t : Tables) (k : Key) where
           ap (λ (m : ℕ). record { place = place_of s y + entry_size y.layout 0; bytes = m }) (long y.layout (length (bytes_in y.entry.value)))
 
   -- where an object is found no cause holds
-  found-clear : (p : ℕ) (w : Version) (kind m : ℕ) → Sought.Object p w kind m ≡ sought L n s area t k → cause ≡ none
+  found-clear : (p : ℕ) (w : Version) (kind m : ℕ) → Ok (record { place = p; version = w; kind = kind; length = m }) ≡ sought L n s area t k → cause ≡ none
   found-clear p w kind m e = go cause refl e
     where
-      go : (c : Option Refusal) → cause ≡ c → Sought.Object p w kind m ≡ sought_as s c object → cause ≡ none
+      go : (c : Option Refusal) → cause ≡ c → Ok (record { place = p; version = w; kind = kind; length = m }) ≡ sought_as s c object → cause ≡ none
       go none q f = q
       go (some c) q f =
-          let g : Sought.Object p w kind m ≡ Sought.Refused c = unfold sought_as in f in let z : ◌≡◌ {A = ℕ} 0 1 = cc in absurd (omega arith)
+          let g : ◌≡◌ {A = Sought} (Ok (record { place = p; version = w; kind = kind; length = m })) (Err c) = unfold sought_as in f in
+          let z : ◌≡◌ {A = ℕ} 0 1 = cc in
+          absurd (omega arith)
 
   -- and the area is none of the geometry's refusals
-  pub found-short : (p : ℕ) (w : Version) (kind m : ℕ) → Sought.Object p w kind m ≡ sought L n s area t k → length area ≤ 65536
+  pub found-short : (p : ℕ) (w : Version) (kind m : ℕ) → Ok (record { place = p; version = w; kind = kind; length = m }) ≡ sought L n s area t k → length area ≤ 65536
   found-short p w kind m e =
       area-short {s = s} {area = area} (seek-shape n s area (no-cause (scan_causes L n s area t k) (found-clear p w kind m e)).0)
 
   -- an object that is found lies in the area
-  pub sought-inside : (p : ℕ) (w : Version) (kind m : ℕ) → Sought.Object p w kind m ≡ sought L n s area t k → ObjectInside (layout_of_kind kind) area p m
+  pub sought-inside : (p : ℕ) (w : Version) (kind m : ℕ) → Ok (record { place = p; version = w; kind = kind; length = m }) ≡ sought L n s area t k → ObjectInside (layout_of_kind kind) area p m
   sought-inside p w kind m e = go cause refl object refl e
     where
-      go : (c : Option Refusal) → cause ≡ c → (o : Option Placed) → object ≡ o → Sought.Object p w kind m ≡ sought_as s c o → ObjectInside (layout_of_kind kind) area p m
-      go (some c) q o r f = let g : Sought.Object p w kind m ≡ Sought.Refused c = unfold sought_as in f in let z : ◌≡◌ {A = ℕ} 0 1 = cc in absurd (omega arith)
+      go : (c : Option Refusal) → cause ≡ c → (o : Option Placed) → object ≡ o → Ok (record { place = p; version = w; kind = kind; length = m }) ≡ sought_as s c o → ObjectInside (layout_of_kind kind) area p m
+      go (some c) q o r f =
+          let g : ◌≡◌ {A = Sought} (Ok (record { place = p; version = w; kind = kind; length = m })) (Err c) = unfold sought_as in f in
+          let z : ◌≡◌ {A = ℕ} 0 1 = cc in
+          absurd (omega arith)
       go none q none r f =
-          let g : Sought.Object p w kind m ≡ Sought.Refused Refusal.Absent = unfold sought_as sought_object in f in let z : ◌≡◌ {A = ℕ} 0 1 = cc in absurd (omega arith)
-      go none q (some y) r f =
-          let g : Sought.Object p w kind m ≡ Sought.Object (place_of s y) (record { 0 = y.entry.version }) (placed_kind y) (placed_size y) =
+          let g : ◌≡◌ {A = Sought} (Ok (record { place = p; version = w; kind = kind; length = m })) (Err Refusal.Absent) =
           unfold sought_as sought_object in f in
-          let its : kind ≡ placed_kind y = cc in
-          let place : p ≡ place_of s y = cc in
-          let whole : m ≡ placed_size y = cc in
+          let z : ◌≡◌ {A = ℕ} 0 1 = cc in
+          absurd (omega arith)
+      go none q (some y) r f =
+          let g : ◌≡◌ {A = Sought} (Ok (record { place = p; version = w; kind = kind; length = m }))
+          (Ok (record { place = place_of s y; version = record { 0 = y.entry.version }; kind = placed_kind y; length = placed_size y })) =
+          unfold sought_as sought_object in f in
+          let same : ◌≡◌ {A = Object} (record { place = p; version = w; kind = kind; length = m })
+          (record { place = place_of s y; version = record { 0 = y.entry.version }; kind = placed_kind y; length = placed_size y }) =
+          ok-same g in
+          let its : kind ≡ placed_kind y = ap (λ (o : Object). o.kind) same in
+          let place : p ≡ place_of s y = ap (λ (o : Object). o.place) same in
+          let whole : m ≡ placed_size y = ap (λ (o : Object). o.length) same in
           let inside = entry-inside area s (log_slots (head_else (head_of v n))) n (undamaged q) t k y (member y r) in
           let edition : layout_of_kind kind ≡ y.layout = ap layout_of_kind its ∙ object-kind q y r in
           subst (λ (K : Layout). ObjectInside K area p m) (sym edition) (record { head = omega arith; whole = omega arith })

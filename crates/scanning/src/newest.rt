@@ -1,8 +1,8 @@
 // The walk over the log that keeps the newest entry of one key.
-ghost use Rattle.std.specs.Prelude.{◌+◌, ◌*◌, ◌≤◌, ◌≡◌, false, ltb, length};
+ghost use Rattle.std.specs.Prelude.{◌+◌, ◌*◌, ◌≤◌, ◌≡◌, false, length};
 ghost use Rattle.std.proofs.Math.Option.{none};
 ghost use Rattle.slot_map.specs.Bit.{named};
-ghost use Rattle.model.specs.Log.{views_of, items_of, is_damaged, placed_in, log_of, same_keys};
+ghost use Rattle.model.specs.Log.{views_of, items_of, is_damaged, placed_in, log_of};
 ghost use Rattle.laws.specs.LogLaws.{AllScanned};
 ghost use Rattle.drive_log.specs.Shape.{Shape};
 ghost use Rattle.drive_log.specs.Extents.{rest_of};
@@ -19,30 +19,15 @@ use segment::reader::edition_of;
 use segment::{Edition, Header, Key, Next, Version};
 use word::number::read32;
 
-// Whether an entry is of a key, an object or a tombstone.
-fn is_of(key: Key, header: Header) -> bool
-    ensures { result ≡ same_keys key header.key }
-{
-    let own = header.key;
-    key.table == own.table && key.key == own.key
-}
-
-// Whether a version is above another. Versions are above 0, so any of them is above that of no entry.
-fn is_newer(version: Version, best: Version) -> bool
-    ensures { result ≡ ltb best.0 version.0 }
-{
-    best.0 < version.0
-}
-
-// What is seen after one entry more.
+// What is seen after one entry more, an object or a tombstone. Versions are above 0, so any of them is above that of no entry.
 fn see(seen: Seen, key: Key, header: Header, place: usize) -> Seen
     ensures { result ≡ seen_with key seen header.key header.version place }
 {
-    if !is_of(key, header) {
+    if key != header.key {
         return seen;
     }
     let version = header.version;
-    if is_newer(version, seen.version) {
+    if seen.version < version {
         return Seen { version, place };
     }
     seen
@@ -110,10 +95,7 @@ pub fn newest(n: usize, s: usize, area: &[u8], map: u32, key: Key) -> Seen
         version: Version(0),
         place: 0,
     };
-    let mut i = 0;
-    while i < n {
-        let slot = i;
-        i += 1;
+    for slot in 0..n {
         if !is_named(map, slot) {
             continue;
         }

@@ -1,5 +1,5 @@
 -- Laws of: 01, "Bytes of a segment": the segments of an area, and what stands at a place of the area.
-use Rattle.std.specs.Prelude.{ℕ, ◌+◌, ◌*◌, ◌-◌, ◌/◌, ◌%◌, ◌≤◌, ◌<◌, min, ◌≡◌, Bool, List, length, take, drop, get_or}
+use Rattle.std.specs.Prelude.{ℕ, ◌+◌, ◌*◌, ◌-◌, ◌/◌, ◌%◌, ◌≤◌, ◌<◌, min, ◌≡◌, Bool, List, length}
 use Rattle.std.proofs.Math.Path.{refl, ap}
 use Rattle.std.proofs.Common.{sym, ◌∙◌, ap₂, add-zero, mod-eq_of_lt, arith, length-take, length-drop}
 use Rattle.std.proofs.Math.Bool.{true, false}

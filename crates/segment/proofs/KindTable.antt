@@ -1,6 +1,6 @@
 -- 01's table of kinds with R-3's kind 7, and that of R-11, as the numbers that the definitions give: what is no kind of an entry has
 -- length 0, and a value of another length has kind 0.
-use Rattle.std.specs.Prelude.{ℕ, ◌≡◌, refl, List, [], ◌∷◌, map}
+use Rattle.std.specs.Prelude.{◌≡◌, refl, [], ◌∷◌, map}
 use Rattle.segment.specs.Choice.{pick, or_zero}
 use Rattle.segment.specs.Layout.{Layout, edition1, edition2, digest_size, entry_size, version_limit, lookup, look_back, value_length, object_kind, table}
 use Rattle.segment.specs.Kinds.{size_or_zero, kind_size}

@@ -1,6 +1,5 @@
 -- Laws of: 01, "Bytes of a segment", and 02, R-11: kinds, lengths of values and limits of counters, as data. Definitions and laws that need
-use Rattle.std.specs.Prelude.{ℕ, ◌+◌, ◌-◌, ◌^◌, ◌<◌, ◌≡◌, refl, Bool, true, false, not, List, [], ◌∷◌, eqb, ltb}
-use Rattle.std.proofs.Math.Option.{Option, none, some}
+use Rattle.std.specs.Prelude.{◌<◌, ◌≡◌, refl, true, not, eqb, ltb}
 use Rattle.std.proofs.lemmas.Bool.{eqb-false, not-true}
 use Rattle.std.proofs.Common.{ltb-true}
 use Rattle.segment.specs.Choice.{pick, both}

@@ -1,6 +1,5 @@
 -- The reader's enum: its case for each answer, and the answer that each case tells.
-use Rattle.std.specs.Prelude.{ℕ, ◌≡◌, refl, Bool, true, false}
-use Rattle.std.proofs.Common.{sym, ◌∙◌, arith}
+use Rattle.std.specs.Prelude.{ℕ, ◌≡◌, Bool}
 use Rattle.segment.specs.Layout.{Layout}
 use Rattle.segment.specs.Entry.{Entry, is_tombstone, kind_of, size_of, key_of, Found, entry}
 use Rattle.segment.specs.declared.Key.{Key}

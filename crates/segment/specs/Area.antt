@@ -1,10 +1,5 @@
 -- 01, "Bytes of a segment": the segments of an area, and what stands at a place of the area.
-use Rattle.std.specs.Prelude.{ℕ, ◌+◌, ◌*◌, ◌-◌, ◌/◌, ◌%◌, ◌≤◌, ◌<◌, min, ◌≡◌, Bool, List, length, take, drop, get_or}
-use Rattle.std.proofs.Math.Path.{refl, ap}
-use Rattle.std.proofs.Common.{sym, ◌∙◌, ap₂, add-zero, mod-eq_of_lt, arith, length-take, length-drop}
-use Rattle.std.proofs.Math.Bool.{true, false}
-use Rattle.std.proofs.Math.Nat.{mul-add-div_right, div-eq_of_lt, mul-add-mod_self_right}
-use Rattle.std.proofs.Math.ListN.{get_or-eq_default}
+use Rattle.std.specs.Prelude.{ℕ, ◌*◌, List, take, drop, get_or}
 use Rattle.segment.specs.Layout.{Layout, layout_of_kind}
 use Rattle.segment.specs.Entry.{Found, entry_at, answer}
 use Rattle.segment.specs.declared.Read.{Read}

@@ -1,5 +1,5 @@
 -- How a definition goes by a test or by what may be missing, and how a test is taken apart.
-use Rattle.std.specs.Prelude.{ℕ, ◌≡◌, refl, Bool, true, false}
+use Rattle.std.specs.Prelude.{ℕ, Bool, true, false}
 use Rattle.std.proofs.Math.Option.{Option, none, some}
 
 unfoldable pub pick {ℓ} : {A : Type ℓ} → Bool → A → A → A

@@ -1,8 +1,5 @@
 -- What a walk over a segment needs of what stands at an offset: an entry without its value, the end, or damage.
-use Rattle.std.specs.Prelude.{ℕ, ◌+◌, ◌≤◌, ◌<◌, Bool, true, false, List, length}
-use Rattle.std.proofs.Math.Path.{◌≡◌, refl}
-use Rattle.std.proofs.Common.{sym, ◌∙◌, ap, arith}
-use Rattle.std.proofs.Math.Option.{Option, none, some}
+use Rattle.std.specs.Prelude.{true, false}
 use Rattle.segment.specs.Layout.{Layout}
 use Rattle.segment.specs.Entry.{Entry, is_tombstone, Found, entry, end, damage, size_of, key_of}
 use Rattle.segment.specs.declared.Header.{Header}

@@ -1,10 +1,6 @@
 -- Laws of an entry's bytes, and of what stands at an offset.
-use Rattle.std.specs.Prelude.{ℕ, ◌+◌, ◌^◌, ◌≤◌, ◌<◌, ◌≡◌, refl, Bool, true, false, List, eqb, ltb, leb, length, get_or, take, drop}
-use Rattle.std.proofs.Common.{sym, ◌∙◌, subst, append_assoc, arith, length-drop, length-take, take_all, lt-ltb, le-ltb, le-leb, eq-eqb, ne_eqb, ltb-true, ltb-false, leb-true, leb-false, eqb-true}
-use Rattle.std.proofs.Math.Path.{ap}
-use Rattle.std.proofs.Math.Option.{Option, none, some}
-use Rattle.std.proofs.Math.ListN.{get_or-eq_default}
-use Rattle.std.proofs.lemmas.Bool.{lt-leb, eqb-false}
+use Rattle.std.specs.Prelude.{ℕ, ◌+◌, ◌≤◌, ◌≡◌, true, List, length, get_or, take, drop}
+use Rattle.std.proofs.Math.Option.{some}
 use Rattle.word.specs.Number.{number_of}
 use Rattle.segment.specs.Layout.{Layout, value_length, good_version, table}
 use Rattle.segment.specs.Entry.{Entry, bytes_in, value_for, size_of, decoded_entry, Found, entry, end, damage}

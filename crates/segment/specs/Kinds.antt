@@ -1,7 +1,5 @@
 -- The table of kinds as numbers, with 0 for none: no kind is 0, and no entry is empty.
-use Rattle.std.specs.Prelude.{ℕ, ◌+◌, ◌≤◌, ◌≡◌}
-use Rattle.std.proofs.Math.Path.{refl, ap}
-use Rattle.std.proofs.Common.{sym, ◌∙◌, arith}
+use Rattle.std.specs.Prelude.{ℕ, ◌≡◌}
 use Rattle.std.proofs.Math.Option.{Option, none, some}
 use Rattle.segment.specs.Layout.{Layout, value_length, entry_size}
 

@@ -1,10 +1,8 @@
 -- 01, "Bytes of a segment", and 02, R-11: kinds, lengths of values and limits of counters, as data. Definitions and laws that need
 -- them take a layout as a parameter and know it by the laws below alone. The widths of table, key, digest number and slot map are the same
 -- in every layout; they stand with the bytes of an entry and of a digest.
-use Rattle.std.specs.Prelude.{ℕ, ◌+◌, ◌-◌, ◌^◌, ◌<◌, ◌≡◌, refl, Bool, true, false, not, List, [], ◌∷◌, eqb, ltb}
+use Rattle.std.specs.Prelude.{ℕ, ◌+◌, ◌-◌, ◌^◌, Bool, true, false, not, List, [], ◌∷◌, eqb, ltb}
 use Rattle.std.proofs.Math.Option.{Option, none, some}
-use Rattle.std.proofs.lemmas.Bool.{eqb-false, not-true}
-use Rattle.std.proofs.Common.{ltb-true}
 use Rattle.segment.specs.Choice.{pick, both}
 use Rattle.segment.specs.declared.Edition.{Edition}
 use Rattle.segment.specs.declared.Edition.TheVariants.{First, Second}

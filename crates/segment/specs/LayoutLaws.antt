@@ -1,13 +1,7 @@
 -- Laws of a layout's table of kinds, and of the versions that it allows.
-use Rattle.std.specs.Prelude.{ℕ, ◌^◌, ◌≤◌, ◌<◌, ◌≡◌, Bool, not, ◌⊎◌, ltb, get_or}
-use Rattle.std.proofs.Math.Path.{refl}
-use Rattle.std.proofs.Common.{sym, ◌∙◌, ap, subst, arith}
-use Rattle.std.proofs.Math.Bool.{true, false}
-use Rattle.std.proofs.Math.Logic.{inl, inr}
-use mathlib.Core.List.{List, [], ◌∷◌, Memᴰ}
-use Rattle.std.proofs.Math.Option.{Option, none, some}
-use Rattle.std.proofs.Math.Dec.{eqb}
-use borrow.Author.Tests.{eq-eqb, ne_eqb, eqb-true, eqb-false, ltb-true, lt-ltb, le-ltb, not-true}
+use Rattle.std.specs.Prelude.{ℕ, ◌<◌, ◌≡◌}
+use mathlib.Core.List.{List}
+use Rattle.std.proofs.Math.Option.{some}
 use Rattle.segment.specs.Layout.{lookup, look_back}
 
 -- ---- the table of objects

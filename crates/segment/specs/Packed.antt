@@ -1,6 +1,5 @@
 -- A byte, three numbers and what follows them: the form that the bytes of an entry and of a digest share.
-use Rattle.std.specs.Prelude.{ℕ, zero, suc, ◌+◌, ◌^◌, ◌≤◌, ◌<◌, ◌≡◌, refl, List, [], ◌∷◌, ◌++◌, length, get_or, take, drop}
-use Rattle.std.proofs.Common.{sym, ◌∙◌, ap, add-zero, arith, length-append, length-take, length-drop, take-append-drop, get_or-drop, get_or-take, take-take, drop-drop, drop-cons}
+use Rattle.std.specs.Prelude.{ℕ, List, ◌∷◌, ◌++◌}
 use Rattle.word.specs.Number.{bytes_of}
 
 -- ---- a byte, three numbers and a rest

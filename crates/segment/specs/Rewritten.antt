@@ -1,9 +1,5 @@
 -- An entry rewritten in another layout (02, R-12 and R-13): its bytes there, and what the writer leaves.
-use Rattle.std.specs.Prelude.{ℕ, ◌+◌, ◌-◌, ◌≤◌, ◌≡◌, refl, Bool, true, false, List, length, take, drop}
-use Rattle.std.proofs.Math.Path.{sym}
-use Rattle.std.proofs.Common.{◌∙◌, ap, append_assoc, arith, length-append, length-drop, take_all}
-use Rattle.std.proofs.Math.Option.{Option, none, some}
-use Rattle.std.proofs.lemmas.List.Edits.{sets}
+use Rattle.std.specs.Prelude.{ℕ, ◌+◌, ◌-◌, Bool, List, length, take, drop}
 use Rattle.segment.specs.Choice.{pick, or_zero}
 use Rattle.segment.specs.Layout.{Layout, entry_size, object_kind, table}
 use Rattle.segment.specs.Written.{encoded_as}

@@ -1,8 +1,5 @@
 -- What the writers of an entry and of a digest leave in a slice.
-use Rattle.std.specs.Prelude.{ℕ, ◌+◌, ◌≤◌, ◌<◌, ◌≡◌, List, ◌∷◌, ◌++◌, length, get_or, set, drop}
-use Rattle.std.proofs.Common.{sym, ◌∙◌, ap, append_assoc, add-suc, add-one, arith, length-append, drop_of_length-le, drop-cons}
-use Rattle.std.proofs.Math.Option.{some}
-use Rattle.std.proofs.lemmas.List.Edits.{sets}
+use Rattle.std.specs.Prelude.{ℕ, List, ◌∷◌, ◌++◌}
 use Rattle.word.specs.Number.{bytes_of}
 use Rattle.segment.specs.Layout.{Layout, table}
 use Rattle.segment.specs.Entry.{Entry, value_for}

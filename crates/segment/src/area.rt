@@ -34,22 +34,12 @@ pub fn entry_at(area: &[u8], place: usize) -> Read
 }
 
 // The whole length of the object at a place, and 0 where none stands.
+#[tactic(auto, unfolding(crate::specs::Area::object_length))]
 pub fn object_length(area: &[u8], place: usize) -> usize
     ensures { result ≡ object_at area.now place }
 {
     match entry_at(area, place) {
-        Read::Object {
-            key: _,
-            version: _,
-            kind: _,
-            length,
-        } => length,
-        Read::Tombstone {
-            key: _,
-            version: _,
-            length: _,
-        } => 0,
-        Read::End => 0,
-        Read::Damage => 0,
+        Read::Object { length, .. } => length,
+        Read::Tombstone { .. } | Read::End | Read::Damage => 0,
     }
 }

@@ -16,8 +16,8 @@ pub fn next(edition: Edition, s: &[u8], at: usize) -> Next
         Read::Object {
             key,
             version,
-            kind: _,
             length,
+            ..
         } => Next::Entry(Header {
             key,
             version,

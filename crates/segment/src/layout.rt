@@ -1,7 +1,10 @@
 // The numbers of the format (01, "Bytes of a segment"; 02, R-11) as the code has them, for each edition. What is proved here ties
 // them to the layout.
+// A function's goals are found with the definitions of its clause open.
+#![tactic(auto, unfolding(crate::specs::Layout::table))]
+
 ghost use Rattle.std.specs.Prelude.{◌≡◌};
-ghost use Rattle.segment.specs.Layout.{edition1, edition2, other_layout, layout_of_kind, table, entry_size, digest_size, version_limit, object_kind, good_version};
+ghost use Rattle.segment.specs.Layout.{other_layout, layout_of_kind, table, entry_size, digest_size, version_limit, object_kind, good_version};
 ghost use Rattle.segment.specs.Choice.{or_zero};
 ghost use Rattle.segment.specs.Kinds.{kind_size};
 
@@ -64,6 +67,7 @@ pub fn version_limit(edition: Edition) -> u64
 }
 
 // The other of the two editions.
+#[tactic(auto, unfolding(crate::specs::Layout::other_layout))]
 pub fn other(edition: Edition) -> Edition
     ensures { result ≡ other_layout edition }
 {
@@ -74,6 +78,7 @@ pub fn other(edition: Edition) -> Edition
 }
 
 // The edition that a kind is of.
+#[tactic(auto, unfolding(crate::specs::Layout::layout_of_kind, crate::specs::Layout::table, crate::specs::Choice::pick))]
 pub fn edition_of_kind(kind: u8) -> Edition
     ensures { result ≡ layout_of_kind kind }
 {
@@ -83,77 +88,46 @@ pub fn edition_of_kind(kind: u8) -> Edition
     Edition::Second
 }
 
-fn first_size(kind: u8) -> usize
-    ensures { result ≡ kind_size edition1 kind }
-{
-    match kind {
-        1 => 19,
-        2 => 35,
-        3 => 67,
-        4 => 11,
-        7 => 131,
-        _ => 0,
-    }
-}
-
-fn second_size(kind: u8) -> usize
-    ensures { result ≡ kind_size edition2 kind }
-{
-    match kind {
-        9 => 23,
-        10 => 39,
-        11 => 71,
-        12 => 135,
-        13 => 15,
-        _ => 0,
-    }
-}
-
 // The length of an entry of that kind, and 0 where no entry has it.
+#[tactic(auto, unfolding(crate::specs::Kinds::size_or_zero, crate::specs::Layout::value_length, crate::specs::Layout::lookup, crate::specs::Layout::table, crate::specs::Choice::pick))]
 pub fn kind_size(edition: Edition, kind: u8) -> usize
     ensures { result ≡ kind_size edition kind }
 {
-    match edition {
-        Edition::First => first_size(kind),
-        Edition::Second => second_size(kind),
-    }
-}
-
-fn first_kind(length: usize) -> u8
-    ensures { result ≡ or_zero (object_kind edition1 length) }
-{
-    match length {
-        8 => 1,
-        24 => 2,
-        56 => 3,
-        120 => 7,
-        _ => 0,
-    }
-}
-
-fn second_kind(length: usize) -> u8
-    ensures { result ≡ or_zero (object_kind edition2 length) }
-{
-    match length {
-        8 => 9,
-        24 => 10,
-        56 => 11,
-        120 => 12,
+    match (edition, kind) {
+        (Edition::First, 1) => 19,
+        (Edition::First, 2) => 35,
+        (Edition::First, 3) => 67,
+        (Edition::First, 4) => 11,
+        (Edition::First, 7) => 131,
+        (Edition::Second, 9) => 23,
+        (Edition::Second, 10) => 39,
+        (Edition::Second, 11) => 71,
+        (Edition::Second, 12) => 135,
+        (Edition::Second, 13) => 15,
         _ => 0,
     }
 }
 
 // The kind of an object whose value is `length` bytes long, and 0 where no object's is.
+#[tactic(auto, unfolding(crate::specs::Choice::or_zero, crate::specs::Layout::look_back, crate::specs::Layout::table, crate::specs::Choice::pick))]
 pub fn object_kind(edition: Edition, length: usize) -> u8
     ensures { result ≡ or_zero (object_kind edition length) }
 {
-    match edition {
-        Edition::First => first_kind(length),
-        Edition::Second => second_kind(length),
+    match (edition, length) {
+        (Edition::First, 8) => 1,
+        (Edition::First, 24) => 2,
+        (Edition::First, 56) => 3,
+        (Edition::First, 120) => 7,
+        (Edition::Second, 8) => 9,
+        (Edition::Second, 24) => 10,
+        (Edition::Second, 56) => 11,
+        (Edition::Second, 120) => 12,
+        _ => 0,
     }
 }
 
 // Whether a version is one that an entry may have.
+#[tactic(auto, unfolding(crate::specs::Layout::good_version, crate::specs::Choice::both))]
 pub fn good_version(edition: Edition, version: Version) -> bool
     ensures { result ≡ good_version edition version.0 }
 {

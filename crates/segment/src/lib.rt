@@ -9,29 +9,29 @@ pub mod rewrite;
 pub mod writer;
 
 // A version of an object or tombstone. Versions and digest numbers are counted apart (01, "Bytes of a segment").
-#[derive(Clone, Copy)]
+#[derive(Clone, Copy, PartialEq, Eq, PartialOrd, Ord)]
 pub struct Version(pub u64);
 
 // The number of a digest.
-#[derive(Clone, Copy)]
+#[derive(Clone, Copy, PartialEq, Eq, PartialOrd, Ord)]
 pub struct DigestNumber(pub u32);
 
 // The editions of the format (02, R-11). What each fixes is a table of `layout`.
-#[derive(Clone, Copy)]
+#[derive(Clone, Copy, PartialEq, Eq)]
 pub enum Edition {
     First,
     Second,
 }
 
 // A key is table and key together (01, "The log and its map").
-#[derive(Clone, Copy)]
+#[derive(Clone, Copy, PartialEq, Eq)]
 pub struct Key {
     pub table: u16,
     pub key: u32,
 }
 
-// What stands at an offset of a segment. `length` is the whole entry's.
-#[derive(Clone, Copy)]
+// What stands at an offset of a segment, one of four, which no Option or Result tells. `length` is the whole entry's.
+#[derive(Clone, Copy, PartialEq, Eq)]
 pub enum Read {
     Object {
         key: Key,
@@ -49,7 +49,7 @@ pub enum Read {
 }
 
 // What an entry has before its value, an object or a tombstone.
-#[derive(Clone, Copy)]
+#[derive(Clone, Copy, PartialEq, Eq)]
 pub struct Header {
     pub key: Key,
     pub version: Version,
@@ -57,8 +57,8 @@ pub struct Header {
     pub length: usize,
 }
 
-// What a walk over a segment meets.
-#[derive(Clone, Copy)]
+// What a walk over a segment meets, one of three, which no Option or Result tells.
+#[derive(Clone, Copy, PartialEq, Eq)]
 pub enum Next {
     Entry(Header),
     End,
@@ -66,7 +66,7 @@ pub enum Next {
 }
 
 // The fields of a digest.
-#[derive(Clone, Copy)]
+#[derive(Clone, Copy, PartialEq, Eq)]
 pub struct Digest {
     pub number: DigestNumber,
     pub map: u32,

@@ -14,7 +14,7 @@ pub fn version_at(edition: Edition, s: &[u8], at: usize) -> Version
     ensures { result ≡ record { 0 = number_of (take (table edition).width (drop at s.now)) } }
 {
     match edition {
-        Edition::First => Version(read32(s, at) as u64),
+        Edition::First => Version(u64::from(read32(s, at))),
         Edition::Second => Version(read64(s, at)),
     }
 }
@@ -65,6 +65,7 @@ pub fn read(edition: Edition, s: &[u8], at: usize) -> Read
 }
 
 // The edition of a segment, by its byte 0: the second where it begins with the second's digest.
+#[tactic(auto, unfolding(crate::specs::Digest::layout_in, crate::specs::Layout::table, crate::specs::Choice::pick))]
 pub fn edition_of(s: &[u8]) -> Edition
     ensures { result ≡ layout_in s.now }
 {

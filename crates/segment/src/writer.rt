@@ -9,15 +9,13 @@ ghost use Rattle.segment.specs.Written.{encoded_head, encoded_as};
 use crate::{Digest, Edition, Key, Version, layout};
 use word::number::{write16, write32, write64};
 
-// All of `src`, from an offset of `dst` on.
+// All of `src`, from an offset of `dst` on. Not by `copy_from_slice`: that calls memmove, which the firmware need not have.
 pub fn copy_into(dst: &mut [u8], at: usize, src: &[u8])
     requires { at + length src.now ≤ length dst.old }
     ensures { dst.new ≡ sets dst.old at src.now }
 {
-    let mut i = 0;
-    while i < src.len() {
-        dst[at + i] = src[i];
-        i += 1;
+    for (i, b) in src.iter().enumerate() {
+        dst[at + i] = *b;
     }
 }
 

@@ -1,7 +1,5 @@
 -- Laws of the next free slot.
-use Rattle.std.specs.Prelude.{◌≡◌, refl, ◌≢◌, ◌⊎◌, ℕ, zero, suc, ◌+◌, ◌-◌, ◌≤◌, ◌<◌}
-use Rattle.std.proofs.Common.{sym, ap, ◌∙◌, inl, inr, add-zero, zero-add, suc-add, eq-or-lt_of_le, arith, lt-ltb, le-ltb}
-use Rattle.std.proofs.Math.Decide.{dec_le, dec_lt}
+use Rattle.std.specs.Prelude.{◌≡◌, ℕ, ◌≤◌, ◌<◌}
 use Rattle.slot_map.specs.Bit.{bit}
 
 -- ---- what the first free slot is

@@ -2,14 +2,14 @@
 ghost use Rattle.std.specs.Prelude.{◌≡◌};
 ghost use Rattle.starting.specs.Answer.{started_with, refused_start};
 
-use record::{Pending, Record, Refusal, Start, StartAnswer, with_pending};
+use record::{Answered, Pending, Record, Refusal, Start, with_pending};
 
 // An operation is pending, with that many stores to come.
 pub fn started(rec: Record, pending: Pending, left: u32) -> Start
     ensures { result ≡ started_with rec pending left }
 {
-    Start {
-        answer: StartAnswer::Started(left),
+    Answered {
+        answer: Ok(left),
         rec: with_pending(rec, pending),
     }
 }
@@ -18,8 +18,8 @@ pub fn started(rec: Record, pending: Pending, left: u32) -> Start
 pub fn refused(rec: Record, cause: Refusal) -> Start
     ensures { result ≡ refused_start rec cause }
 {
-    Start {
-        answer: StartAnswer::Refused(cause),
+    Answered {
+        answer: Err(cause),
         rec,
     }
 }

@@ -4,7 +4,6 @@ ghost use Rattle.model.specs.Causes.{first_cause};
 ghost use Rattle.model.specs.Refused.{is_pending};
 ghost use Rattle.starting.specs.Checks.{checked, idle_causes};
 
-use crate::Check;
 use record::{Pending, Record, Refusal};
 
 // Whether an operation is pending.
@@ -18,15 +17,15 @@ fn is_pending(pending: Pending) -> bool
 }
 
 // 3 and 5: the work buffer is long enough, and nothing is pending.
-pub fn check_idle(rec: Record, work: usize) -> Check
+pub fn check_idle(rec: Record, work: usize) -> Result<(), Refusal>
     ensures { result ≡ checked (first_cause (idle_causes rec work)) }
 {
     if work < rec.size as usize {
-        return Check::Refused(Refusal::WorkShort);
+        return Err(Refusal::WorkShort);
     }
     let pending = rec.pending;
     if is_pending(pending) {
-        return Check::Refused(Refusal::Busy);
+        return Err(Refusal::Busy);
     }
-    Check::Passed
+    Ok(())
 }

@@ -2,16 +2,7 @@
 // and the answer.
 #![tactic(auto)]
 
-use record::Refusal;
-
 pub mod answer;
 pub mod checks;
 pub mod digest;
 pub mod stores;
-
-// Whether a call goes on, or the cause for which it is refused.
-#[derive(Clone, Copy)]
-pub enum Check {
-    Passed,
-    Refused(Refusal),
-}

@@ -1,6 +1,6 @@
 -- Laws of: An entry that has come to stand goes into the index: the rule holds for the new log, and the number of keys is the new record's.
 use Prim.Native.Nat.{ℕ, ◌+◌, ◌*◌, ◌-◌, ◌≤◌, ◌<◌}
-use Rattle.std.specs.Prelude.{◌≡◌, Bool, length, drop}
+use Rattle.std.specs.Prelude.{◌≡◌, Bool, length, drop, Ok, Some}
 use Rattle.std.proofs.Math.Path.{refl, ap, subst}
 use Rattle.std.proofs.Common.{sym, ◌∙◌, length-take, lt-ltb, ltb-true, ltb-false}
 use Rattle.std.proofs.Math.Bool.{true, false}
@@ -16,7 +16,8 @@ use Rattle.segment.proofs.EntryLaws.{found-fits}
 use Rattle.slot_map.specs.Bit.{named}
 use Rattle.record.specs.Committed.{committed}
 use Rattle.record.specs.declared.Commit.{Commit}
-use Rattle.record.specs.declared.StepAnswer.{StepAnswer}
+use Rattle.record.specs.Answered.{StepAnswer}
+use Rattle.record.specs.declared.Progress.{Progress}
 use Rattle.record.specs.declared.Record.{Record}
 use Rattle.model.specs.Log.{Placed, place_of, segment_of, views_of, log_of, latest, object_only, present, keys_of}
 use Rattle.model.specs.Counts.{more_bytes, object_size, without_live, entry_counts}
@@ -32,7 +33,7 @@ use Rattle.index.specs.InsertLaws.{Indexed, Tells}
 use Rattle.index.proofs.InsertLaws.{replaces, comes-new, tells-next, tells-same, tally-new, tally-over, tally-newer, tally-older, tally-full, insert-next}
 use Rattle.index.proofs.BuildLaws.{found-in-area}
 use Rattle.counting.specs.CountingLaws.{lost-latest}
-use Rattle.index.specs.declared.Built.{Built}
+use Rattle.index.specs.Build.{Built}
 use Rattle.index.specs.declared.Inserted.{Inserted}
 use Rattle.stepping.specs.Finish.{keys_after, answered_with, lost_by, counts_after, found_in, finish_entry}
 use Rattle.stepping.specs.EntryLaws.{AllFound, Finished}
@@ -42,11 +43,11 @@ use Rattle.stepping.specs.EntryLaws.{AllFound, Finished}
 module _ (S m : ℕ) (log : List Placed) (few : length (keys_of log) < m) where
   -- the number of keys, and the rule for the cells
   abbrev Counted : Inserted → List ℕ → ℕ → Type 0
-  Counted a cells n = (keys_after a n ≡ Built.Keys (length (keys_of log))) × IndexRule S log cells
+  Counted a cells n = (keys_after a n ≡ Some (length (keys_of log))) × IndexRule S log cells
 
-  counted-known : (a : Inserted) (cells : List ℕ) (n k : ℕ) → keys_after a n ≡ Built.Keys k → Tells S m log (counted cells k) → Counted a cells n
+  counted-known : (a : Inserted) (cells : List ℕ) (n k : ℕ) → keys_after a n ≡ Some k → Tells S m log (counted cells k) → Counted a cells n
   unfolding Tells
-  counted-known a cells n k e w = (e ∙ ap Built.Keys w.keys, w.rule)
+  counted-known a cells n k e w = (e ∙ ap Some w.keys, w.rule)
 
   not-over : Tells S m log over → ⊥
   unfolding Tells
@@ -73,7 +74,7 @@ recovered-found L n s m area r e =
     (λ h l f x i. placed-found L n s m area h f x i) r e
 
 pub told-known : (r : Record) (done : Commit) (version k : ℕ) (counts : List ℕ) → k < r.cells
-    → answered_with r done version counts (Built.Keys k) ≡ record { answer = StepAnswer.Done (record { 0 = version }); rec = committed r done k counts }
+    → answered_with r done version counts (Some k) ≡ record { answer = Ok (Progress.Done (record { 0 = version })); rec = committed r done k counts }
 unfolding answered_with
 told-known r done version k counts h = pick_true (ltb k r.cells) _ _ (lt-ltb k r.cells h)
 
@@ -152,7 +153,7 @@ module _ (r : Record) (done : Commit) (log log' : List Placed) (area' cells : Li
               ∙ ap
               (λ (l : List ℕ).
               record {
-                answer = StepAnswer.Done (record { 0 = r.next.0 });
+                answer = Ok (Progress.Done (record { 0 = r.next.0 }));
                 rec = committed r done (length (keys_of log')) (more_bytes x.slot (object_size x.layout x.entry) l);
               }) lost;
           rule = c.1;

@@ -1,6 +1,6 @@
 -- Laws of: The last step of an operation that was started on a recovered store gives 01's own record, version, and an index that keeps its
 use Prim.Native.Nat.{ℕ, ◌+◌, ◌*◌, ◌-◌, ◌^◌, ◌<◌}
-use Rattle.std.specs.Prelude.{◌≡◌, set}
+use Rattle.std.specs.Prelude.{◌≡◌, set, Ok, Some}
 use Rattle.std.proofs.Math.Path.{refl, ap, subst}
 use Rattle.std.proofs.Common.{sym, ◌∙◌, arith, leb-true}
 use Rattle.std.proofs.Math.Bool.{Bool, true, false}
@@ -27,7 +27,8 @@ use Rattle.record.specs.RangeLaws.{Lent}
 use Rattle.record.specs.Switch.{new_layout, unswitched}
 use Rattle.record.specs.declared.Pending.{Pending}
 use Rattle.record.specs.declared.Pending.TheVariants.{Append, NewHead}
-use Rattle.record.specs.declared.StepAnswer.{StepAnswer}
+use Rattle.record.specs.Answered.{StepAnswer}
+use Rattle.record.specs.declared.Progress.{Progress}
 use Rattle.record.specs.declared.Record.{Record}
 use Rattle.model.specs.Log.{Placed, segment_of, keys_of}
 use Rattle.model.specs.Counts.{object_bytes, without_victims}
@@ -43,8 +44,7 @@ use Rattle.laws.specs.OperationsKept.{edition-roomy, finishes, clean-scan, clean
 use Rattle.index.specs.InsertLaws.{Indexed}
 use Rattle.counting.specs.Counting.{renewed_at, own_bytes}
 use Rattle.counting.specs.CountingLaws.{segment-new}
-use Rattle.index.specs.declared.Built.{Built}
-use Rattle.index.specs.Build.{built}
+use Rattle.index.specs.Build.{Built, built}
 use Rattle.index.specs.BuildLaws.{Holds}
 use Rattle.stepping.specs.Finish.{answered_with, finish_append, finish_head, clean_map, ascending, rebuilt, finish_rebuilt, finish_clean, finish_forget, finish_with}
 use Rattle.stepping.proofs.EntryLaws.{entry-finished, recovered-found, told-known}
@@ -104,7 +104,7 @@ module _ (L : Layout) (before cells : List ℕ) (idle : Record) (recovers : reco
           (λ y i. omega (arith, recovered-above L idle.slots idle.size idle.cells before (unswitched idle) recovers y i, f.takes.version)) in
           record {
             answers =
-                w.answers ∙ ap (λ (s : Record). record { answer = StepAnswer.Done (record { 0 = idle.next.0 }); rec = s })
+                w.answers ∙ ap (λ (s : Record). record { answer = Ok (Progress.Done (record { 0 = idle.next.0 })); rec = s })
                 (keys-own r done fin (length (keys_of (log_now after fin))) keys refl);
             rule = w.rule;
           }
@@ -135,7 +135,7 @@ module _ (L : Layout) (before cells : List ℕ) (idle : Record) (recovers : reco
           (λ y i. omega (arith, recovered-above L idle.slots idle.size idle.cells before (unswitched idle) recovers y i, f.takes.version)) in
           record {
             answers =
-                w.answers ∙ ap (λ (s : Record). record { answer = StepAnswer.Done (record { 0 = idle.next.0 }); rec = s })
+                w.answers ∙ ap (λ (s : Record). record { answer = Ok (Progress.Done (record { 0 = idle.next.0 })); rec = s })
                 (keys-own r (done (with_bit idle.map (new_slot idle))) fin (length (keys_of (log_now after fin))) keys
                 (ap (λ (m : ℕ). committed r (done m) fin.keys fin.counts) (slot-clear (with_bit idle.map (new_slot idle)) refl)));
             rule = w.rule;
@@ -179,9 +179,9 @@ module _ (L : Layout) (before cells : List ℕ) (idle : Record) (recovers : reco
           (record {
             answers =
                 ap (answered_with r (done (new_digest idle victims).map) version (renewed_at idle.size after (new_slot idle) victims idle.counts)) holds.answers
-                ∙ ap (λ (n : ℕ). answered_with r (done (new_digest idle victims).map) version (set (without_victims victims 0 idle.counts) (new_slot idle) n) (Built.Keys (length (keys_of (log_now after fin))))) held
+                ∙ ap (λ (n : ℕ). answered_with r (done (new_digest idle victims).map) version (set (without_victims victims 0 idle.counts) (new_slot idle) n) (Some (length (keys_of (log_now after fin))))) held
                 ∙ told-known r (done (new_digest idle victims).map) version (length (keys_of (log_now after fin))) fin.counts (omega (arith, few, keys))
-                ∙ ap (λ (s : Record). record { answer = StepAnswer.Done (record { 0 = version }); rec = s })
+                ∙ ap (λ (s : Record). record { answer = Ok (Progress.Done (record { 0 = version })); rec = s })
                 (keys-own r (done (new_digest idle victims).map) fin (length (keys_of (log_now after fin))) keys refl);
             rule = holds.rule;
           })

@@ -1,5 +1,5 @@
 -- The last step at each test of the code.
-use Rattle.std.specs.Prelude.{ℕ, ◌+◌, ◌*◌, ◌-◌, ◌/◌, ◌≤◌, ◌<◌, ◌≡◌, List, ltb, get_or, drop}
+use Rattle.std.specs.Prelude.{ℕ, ◌+◌, ◌*◌, ◌-◌, ◌/◌, ◌≤◌, ◌<◌, ◌≡◌, List, ltb, get_or, drop, Ok, Some, None}
 use Rattle.std.proofs.Math.Path.{refl, sym, ap, subst}
 use Rattle.std.proofs.Common.{◌∙◌, ap₂, mul-le-mul, mul-le-mul_right, suc-mul, arith, length-take, lt-ltb, le-ltb}
 use Rattle.segment.proofs.Choice.{pick_true, pick-false}
@@ -18,8 +18,8 @@ use Rattle.record.specs.declared.Commit.{Commit}
 use Rattle.record.specs.declared.Pending.{Pending}
 use Rattle.record.specs.declared.Pending.TheVariants.{Idle, Append, NewHead, Clean, Forget}
 use Rattle.record.specs.declared.Refusal.{Refusal}
-use Rattle.record.specs.declared.Stepped.{Stepped}
-use Rattle.record.specs.declared.StepAnswer.{StepAnswer}
+use Rattle.record.specs.Answered.{Stepped, StepAnswer}
+use Rattle.record.specs.declared.Progress.{Progress}
 use Rattle.record.specs.declared.Record.{Record}
 use Rattle.model.specs.Log.{segment_of}
 use Rattle.model.specs.Operations.{next_after, append_commit, head_commit}
@@ -28,8 +28,7 @@ use Rattle.segment.specs.Area.{object_at}
 use Rattle.counting.specs.Counting.{lost_at, renewed_at}
 use Rattle.laws.specs.Counted.{fewer-most}
 use Rattle.index.specs.Insert.{Insertion, inserted}
-use Rattle.index.specs.Build.{Rebuilt}
-use Rattle.index.specs.declared.Built.{Built}
+use Rattle.index.specs.Build.{Rebuilt, Built}
 use Rattle.index.specs.declared.Inserted.{Inserted}
 use Rattle.telling.specs.Next.{PendingIn}
 use Rattle.stepping.specs.Finish.{After, refused_step, unfit, keys_after, answered_with, lost_by, counts_after, entry_in, found_in, finish_entry, finish_append, finish_head, rebuilt, finish_rebuilt, finish_clean, finish_forget, one_less, finish_with, advanced}
@@ -37,19 +36,19 @@ use Rattle.stepping.specs.Finish.{After, refused_step, unfit, keys_after, answer
 -- ---- the keys after an insertion
 
 module _ (n : ℕ) {a : Inserted} where
-  pub keys-new : a ≡ Inserted.New → Built.Keys (n + 1) ≡ keys_after a n
+  pub keys-new : a ≡ Inserted.New → Some (n + 1) ≡ keys_after a n
   unfolding keys_after
   keys-new e = rw e
 
-  pub keys-newer : {old : ℕ} → a ≡ Inserted.Newer old → Built.Keys n ≡ keys_after a n
+  pub keys-newer : {old : ℕ} → a ≡ Inserted.Newer old → Some n ≡ keys_after a n
   unfolding keys_after
   keys-newer e = rw e
 
-  pub keys-older : a ≡ Inserted.Older → Built.Keys n ≡ keys_after a n
+  pub keys-older : a ≡ Inserted.Older → Some n ≡ keys_after a n
   unfolding keys_after
   keys-older e = rw e
 
-  pub keys-full : a ≡ Inserted.Full → Built.TooMany ≡ keys_after a n
+  pub keys-full : a ≡ Inserted.Full → None ≡ keys_after a n
   unfolding keys_after
   keys-full e = rw e
 
@@ -57,20 +56,20 @@ module _ (n : ℕ) {a : Inserted} where
 
 module _ (r : Record) (done : Commit) (version : Version) (counts : List ℕ) {b : Built} where
   pub told-keys :
-      {n : ℕ} → b ≡ Built.Keys n → n < r.cells → {s : Record} → s ≡ committed r done n counts →
-      record { answer = StepAnswer.Done version; rec = s } ≡ answered_with r done version.0 counts b
+      {n : ℕ} → b ≡ Some n → n < r.cells → {s : Record} → s ≡ committed r done n counts →
+      record { answer = Ok (Progress.Done version); rec = s } ≡ answered_with r done version.0 counts b
   unfolding answered_with
   told-keys {n} e h f =
-      ap (λ (s : Record). record { answer = StepAnswer.Done version; rec = s }) f
+      ap (λ (s : Record). record { answer = Ok (Progress.Done version); rec = s }) f
       ∙ sym (pick_true (ltb n r.cells) _ _ (lt-ltb n r.cells h))
       ∙ ap (answered_with r done version.0 counts) (sym e)
 
-  pub told_over : {n : ℕ} → b ≡ Built.Keys n → r.cells ≤ n → {x : Stepped} → x ≡ refused_step r Refusal.BadRecord → x ≡ answered_with r done version.0 counts b
+  pub told_over : {n : ℕ} → b ≡ Some n → r.cells ≤ n → {x : Stepped} → x ≡ refused_step r Refusal.BadRecord → x ≡ answered_with r done version.0 counts b
   unfolding answered_with
   told_over {n} e h f =
       f ∙ sym (pick-false (ltb n r.cells) _ _ (le-ltb n r.cells h)) ∙ ap (answered_with r done version.0 counts) (sym e)
 
-  pub told-many : b ≡ Built.TooMany → {x : Stepped} → x ≡ refused_step r Refusal.BadRecord → x ≡ answered_with r done version.0 counts b
+  pub told-many : b ≡ None → {x : Stepped} → x ≡ refused_step r Refusal.BadRecord → x ≡ answered_with r done version.0 counts b
   unfolding answered_with
   told-many e f = f ∙ ap (answered_with r done version.0 counts) (sym e)
 
@@ -301,11 +300,11 @@ module _ (L : Layout) (r : Record) (area cells : List ℕ) where
 module _ (L : Layout) (r : Record) (area cells : List ℕ) where
   pub advance-left :
       {k : ℕ} → k ≡ stores_left r.pending → 1 < k → {q : Pending} → q ≡ one_less r.pending → {s : Record} → s ≡ with_pending r q →
-      record { stepped = record { answer = StepAnswer.Left (k - 1); rec = s }; cells = cells } ≡ advanced L r area cells
+      record { stepped = record { answer = Ok (Progress.Left (k - 1)); rec = s }; cells = cells } ≡ advanced L r area cells
   unfolding advanced
   advance-left {k} ek h {q} eq {s} es =
-      ap (λ (t : Record). record { stepped = record { answer = StepAnswer.Left (k - 1); rec = t }; cells = cells }) (es ∙ ap (with_pending r) eq)
-      ∙ ap (λ (j : ℕ). record { stepped = record { answer = StepAnswer.Left (j - 1); rec = with_pending r (one_less r.pending) }; cells = cells }) ek
+      ap (λ (t : Record). record { stepped = record { answer = Ok (Progress.Left (k - 1)); rec = t }; cells = cells }) (es ∙ ap (with_pending r) eq)
+      ∙ ap (λ (j : ℕ). record { stepped = record { answer = Ok (Progress.Left (j - 1)); rec = with_pending r (one_less r.pending) }; cells = cells }) ek
       ∙ sym (pick_true (ltb 1 (stores_left r.pending)) _ _ (lt-ltb 1 (stores_left r.pending) (omega arith)))
 
   pub advance-last :

@@ -1,5 +1,5 @@
 -- Laws of: What is told of the next store and what the step that follows does, for every input: one theorem about the two calls.
-use Rattle.std.specs.Prelude.{ℕ, ◌≡◌, List, ◌⊎◌, length, set}
+use Rattle.std.specs.Prelude.{ℕ, ◌≡◌, List, ◌⊎◌, length, set, Ok, Err, None, Some}
 use Rattle.std.proofs.Math.Path.{refl}
 use Rattle.std.proofs.Common.{sym, ◌∙◌, ap, subst, ne_eqb}
 use Rattle.std.proofs.Math.Bool.{not}
@@ -9,20 +9,17 @@ use Rattle.std.proofs.Math.Decide.{ℕ_discrete}
 use Rattle.segment.proofs.Choice.{both-false-right}
 use Rattle.segment.specs.Layout.{Layout}
 use Rattle.record.specs.Range.{fits_lent, lengths_own}
-use Rattle.record.specs.declared.Foretold.{Foretold}
+use Rattle.record.specs.Answered.{Foretold, Stepped, TellAnswer}
 use Rattle.record.specs.declared.Refusal.{Refusal}
 use Rattle.record.specs.declared.Refusal.TheVariants.{BadRecord}
 use Rattle.record.specs.declared.Record.{Record}
-use Rattle.record.specs.declared.Stepped.{Stepped}
-use Rattle.record.specs.declared.TellAnswer.{TellAnswer}
 use Rattle.model.specs.Causes.{first_cause}
 use Rattle.model.specs.Refused.{step_causes, tell_causes}
 use Rattle.model.specs.Promises.{StepPromise, lent_lengths, tell_lengths}
 use Rattle.laws.specs.CauseLaws.{cause-first}
 use Rattle.telling.specs.Agree.{tested_store}
 use Rattle.telling.specs.Told.{told_store, told_unless, told_by}
-use Rattle.telling.specs.declared.NextStore.{NextStore}
-use Rattle.telling.specs.declared.NextStore.TheVariants.{At, Bad}
+use Rattle.telling.specs.Next.{NextStore}
 use Rattle.stepping.specs.Tested.{StepTested}
 use Rattle.stepping.specs.Foretold.{Follows, OtherIndex}
 
@@ -40,8 +37,8 @@ module _ (L : Layout) (r : Record) (area area' cells cells' work : List ℕ) (a 
 
     found : first_cause (step_causes L r (lent_lengths area cells work)) ≡ none → (x : NextStore) → tested_store L (length area) work r ≡ x → Following (told_store x)
     unfolding Follows told_store
-    found e (At place byte) t = inl (tested.stores e place byte t)
-    found e Bad t = inl (tested.before-store e t)
+    found e (Some s) t = inl (tested.stores e s.place s.byte t)
+    found e None t = inl (tested.before-store e t)
 
     own-index : length cells ≡ r.cells → (c : Option Refusal) → cause ≡ c → Following (told_unless L r (length area) work c)
     unfolding Follows told_unless
@@ -60,8 +57,8 @@ module _ (L : Layout) (r : Record) (area area' cells cells' work : List ℕ) (a 
 
     other-index : (length cells ≡ r.cells → ⊥) → (x : TellAnswer) → Following x
     unfolding Follows
-    other-index n (TellAnswer.At place byte) = inr (unfit n)
-    other-index n (TellAnswer.Refused c) = inr (unfit n)
+    other-index n (Ok s) = inr (unfit n)
+    other-index n (Err c) = inr (unfit n)
 
     -- For every input: the contracts of the two calls leave nothing else.
     pub tell-step : {x : Foretold} → x ≡ told_by L r area work → Following x.answer

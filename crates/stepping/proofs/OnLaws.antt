@@ -1,5 +1,5 @@
 -- The step's promise from what is found of its next store, whichever function made its tests.
-use Rattle.std.specs.Prelude.{ℕ, ◌<◌, Bool, true, false, List, length, set}
+use Rattle.std.specs.Prelude.{ℕ, ◌<◌, Bool, true, false, List, length, set, Ok, Err, None, Some}
 use Rattle.std.proofs.Math.Path.{◌≡◌, refl, sym, ap, subst⁻¹}
 use Rattle.std.proofs.Common.{◌∙◌, arith}
 use Rattle.std.proofs.Math.Option.{Option, none, some}
@@ -12,22 +12,21 @@ use Rattle.record.specs.RangeLaws.{lent}
 use Rattle.record.specs.declared.Record.{Record}
 use Rattle.record.specs.declared.Refusal.{Refusal}
 use Rattle.record.specs.declared.Refusal.TheVariants.{BadRecord}
-use Rattle.record.specs.declared.Stepped.{Stepped}
-use Rattle.record.specs.declared.TellAnswer.{TellAnswer}
+use Rattle.record.specs.Answered.{Stepped, TellAnswer}
 use Rattle.model.specs.Causes.{first_cause}
 use Rattle.model.specs.Refused.{step_causes}
 use Rattle.model.specs.Promises.{StepPromise, lent_lengths}
 use Rattle.telling.specs.Agree.{agrees_with, tested_store}
-use Rattle.telling.specs.Next.{next_store, PendingIn}
+use Rattle.record.specs.AnswerLaws.{ok-same}
+use Rattle.record.specs.declared.ToldStore.{ToldStore}
+use Rattle.telling.specs.Next.{next_store, PendingIn, NextStore}
 use Rattle.telling.proofs.NextLaws.{next-inside}
 use Rattle.telling.specs.Told.{told_store, told_unless, found_by, told_by}
-use Rattle.telling.specs.declared.NextStore.{NextStore}
-use Rattle.telling.specs.declared.NextStore.TheVariants.{At, Bad}
 use Rattle.stepping.specs.Tested.{StepTested}
 use Rattle.stepping.specs.Finish.{refused_step, advanced}
 use Rattle.stepping.proofs.StepLaws.{pending-not-idle, refused-promise, refused-tested, bad-promise, bad-tested, stored-promise, stored-tested}
 
-same-refusal : {c d : Refusal} → TellAnswer.Refused d ≡ TellAnswer.Refused c → d ≡ c
+same-refusal : {c d : Refusal} → ◌≡◌ {A = TellAnswer} (Err d) (Err c) → d ≡ c
 same-refusal e = cc
 
 module _ (L : Layout) (r : Record) (area cells work : List ℕ) where
@@ -42,7 +41,7 @@ module _ (L : Layout) (r : Record) (area cells work : List ℕ) where
   Unless o = told_unless L r (length area) work o
 
   -- a refusal is the first cause, or there is no next store
-  pub found-refused : (c : Refusal) → found_by L r area (length cells) work ≡ TellAnswer.Refused c → {x : Stepped} → x ≡ refused_step r c → Kept area cells x
+  pub found-refused : (c : Refusal) → found_by L r area (length cells) work ≡ Err c → {x : Stepped} → x ≡ refused_step r c → Kept area cells x
   unfolding told_unless told_store
   found-refused c e is = subst⁻¹ (Kept area cells) is (go cause refl)
     where
@@ -53,38 +52,36 @@ module _ (L : Layout) (r : Record) (area cells work : List ℕ) where
       go none f = by (tested_store L (length area) work r) refl
         where
           by : (x : NextStore) → tested_store L (length area) work r ≡ x → Kept area cells (refused_step r c)
-          by (At p b) t =
-              let w : TellAnswer.At p b ≡ TellAnswer.Refused c = sym (ap Unless f ∙ ap told_store t) ∙ e in
+          by (Some s) t =
+              let w : ◌≡◌ {A = TellAnswer} (Ok s) (Err c) = sym (ap Unless f ∙ ap told_store t) ∙ e in
               let z : ◌≡◌ {A = ℕ} 0 1 = cc in
               absurd (omega arith)
-          by Bad t =
+          by None t =
               let w : BadRecord ≡ c = same-refusal (sym (ap Unless f ∙ ap told_store t) ∙ e) in (
                 bad-promise L r area cells work f t,
                 bad-tested L r area cells work f t (ap (refused_step r) (sym w)),
               )
 
   -- a store that is found is made
-  pub found-stored : (p b : ℕ) → found_by L r area (length cells) work ≡ TellAnswer.At p b → {x : Stepped} {cells' : List ℕ}
+  pub found-stored : (p b : ℕ) → found_by L r area (length cells) work ≡ Ok (record { place = p; byte = b }) → {x : Stepped} {cells' : List ℕ}
       → record { stepped = x; cells = cells' } ≡ advanced L r (set area p b) cells → length cells' ≡ length cells → Kept (set area p b) cells' x
   unfolding told_unless told_store
   found-stored p b e {x} {cells'} s same = go cause refl
     where
       go : (o : Option Refusal) → cause ≡ o → Kept (set area p b) cells' x
       go (some d) f =
-          let w : TellAnswer.Refused d ≡ TellAnswer.At p b = sym (ap Unless f) ∙ e in
+          let w : ◌≡◌ {A = TellAnswer} (Err d) (Ok (record { place = p; byte = b })) = sym (ap Unless f) ∙ e in
           let z : ◌≡◌ {A = ℕ} 0 1 = cc in
           absurd (omega arith)
       go none f = by (tested_store L (length area) work r) refl
         where
           by : (y : NextStore) → tested_store L (length area) work r ≡ y → Kept (set area p b) cells' x
-          by (At q c) t =
-              let w : TellAnswer.At q c ≡ TellAnswer.At p b = sym (ap Unless f ∙ ap told_store t) ∙ e in
-              let place : q ≡ p = cc in
-              let byte : c ≡ b = cc in
-              let at : tested_store L (length area) work r ≡ At p b = t ∙ ap (λ (n : ℕ). At n c) place ∙ ap (At p) byte in
+          by (Some next) t =
+              let w : ◌≡◌ {A = TellAnswer} (Ok next) (Ok (record { place = p; byte = b })) = sym (ap Unless f ∙ ap told_store t) ∙ e in
+              let at : tested_store L (length area) work r ≡ Some (record { place = p; byte = b }) = t ∙ ap (λ (n : ToldStore). Some n) (ok-same w) in
               (stored-promise L r area cells work f p b at s same, stored-tested L r area cells work f p b at s)
-          by Bad t =
-              let w : TellAnswer.Refused BadRecord ≡ TellAnswer.At p b = sym (ap Unless f ∙ ap told_store t) ∙ e in
+          by None t =
+              let w : ◌≡◌ {A = TellAnswer} (Err BadRecord) (Ok (record { place = p; byte = b })) = sym (ap Unless f ∙ ap told_store t) ∙ e in
               let z : ◌≡◌ {A = ℕ} 0 1 = cc in
               absurd (omega arith)
 
@@ -101,7 +98,7 @@ module _ (L : Layout) (r : Record) (area cells work : List ℕ) (fit : fits_lent
   pub told-found : {a : TellAnswer} → a ≡ (told_by L r area work).answer → a ≡ found_by L r area (length cells) work
   told-found e = e ∙ ap (λ (i : ℕ). found_by L r area i work) (sym own)
 
-  module _ (p b : ℕ) (e : found_by L r area (length cells) work ≡ TellAnswer.At p b) where
+  module _ (p b : ℕ) (e : found_by L r area (length cells) work ≡ Ok (record { place = p; byte = b })) where
     -- what the last step may rely on
     pub record Found : Type 0 where
       pub left : 0 < stores_left r.pending
@@ -115,28 +112,28 @@ module _ (L : Layout) (r : Record) (area cells work : List ℕ) (fit : fits_lent
       where
         go : (o : Option Refusal) → first_cause (step_causes L r (lent_lengths area cells work)) ≡ o → Found
         go (some d) f =
-            let w : TellAnswer.Refused d ≡ TellAnswer.At p b = sym (ap (told_unless L r (length area) work) f) ∙ e in
+            let w : ◌≡◌ {A = TellAnswer} (Err d) (Ok (record { place = p; byte = b })) = sym (ap (told_unless L r (length area) work) f) ∙ e in
             let z : ◌≡◌ {A = ℕ} 0 1 = cc in
             absurd (omega arith)
         go none f = by (agrees_with L r r.pending) refl (next_store (length area) work r) refl
           where
-            told : told_store (pick (agrees_with L r r.pending) (next_store (length area) work r) Bad) ≡ TellAnswer.At p b
+            told : told_store (pick (agrees_with L r r.pending) (next_store (length area) work r) None) ≡ Ok (record { place = p; byte = b })
             told = sym (ap (told_unless L r (length area) work) f) ∙ e
 
             by : (t : Bool) → agrees_with L r r.pending ≡ t → (y : NextStore) → next_store (length area) work r ≡ y → Found
             by false t y n =
-                let w : TellAnswer.Refused BadRecord ≡ TellAnswer.At p b = sym (ap told_store (pick-false _ _ _ t)) ∙ told in
+                let w : ◌≡◌ {A = TellAnswer} (Err BadRecord) (Ok (record { place = p; byte = b })) = sym (ap told_store (pick-false _ _ _ t)) ∙ told in
                 let z : ◌≡◌ {A = ℕ} 0 1 = cc in
                 absurd (omega arith)
-            by true t Bad n =
-                let w : TellAnswer.Refused BadRecord ≡ TellAnswer.At p b = sym (ap told_store (pick_true _ _ _ t ∙ n)) ∙ told in
+            by true t None n =
+                let w : ◌≡◌ {A = TellAnswer} (Err BadRecord) (Ok (record { place = p; byte = b })) = sym (ap told_store (pick_true _ _ _ t ∙ n)) ∙ told in
                 let z : ◌≡◌ {A = ℕ} 0 1 = cc in
                 absurd (omega arith)
-            by true t (At q c) n =
-                let w : TellAnswer.At q c ≡ TellAnswer.At p b = sym (ap told_store (pick_true _ _ _ t ∙ n)) ∙ told in
-                let same : q ≡ p = cc in
+            by true t (Some s) n =
+                let w : ◌≡◌ {A = TellAnswer} (Ok s) (Ok (record { place = p; byte = b })) = sym (ap told_store (pick_true _ _ _ t ∙ n)) ∙ told in
+                let same : s.place ≡ p = ap (λ (n : ToldStore). n.place) (ok-same w) in
                 let l = lent L r (length area) (length cells) fit in
-                let inside = next-inside (length area) work r q c l.head-below l.area-own r.pending n in
+                let inside = next-inside (length area) work r s.place s.byte l.head-below l.area-own r.pending n in
                 record {
                   left = l.left-some (λ idle. pending-not-idle L r area cells work f idle);
                   inside = inside.0;

@@ -2,7 +2,7 @@
 use Prim.Native.Nat.{ℕ, zero, suc, ◌-◌, ◌≤◌, ◌<◌}
 use Rattle.std.proofs.Math.Path.{◌≡◌, refl, ap, subst}
 use Rattle.std.proofs.Common.{sym, ◌∙◌, inl, inr}
-use Rattle.std.specs.Prelude.{Bool, not, List, [], ◌∷◌, ltb, get_or, take}
+use Rattle.std.specs.Prelude.{Bool, not, List, [], ◌∷◌, ltb, get_or, take, Ok, Err, None, Some}
 use Rattle.std.proofs.Math.Bool.{true, false}
 use Rattle.std.proofs.Math.Option.{Option, none, some}
 use native.Mathlib.Omega.{arith}
@@ -22,8 +22,8 @@ use Rattle.record.specs.declared.Pending.{Pending}
 use Rattle.record.specs.declared.Pending.TheVariants.{Idle, Append, NewHead, Clean, Forget}
 use Rattle.record.specs.declared.Refusal.{Refusal}
 use Rattle.record.specs.declared.Refusal.TheVariants.{BadRecord}
-use Rattle.record.specs.declared.StepAnswer.{StepAnswer}
-use Rattle.record.specs.declared.Stepped.{Stepped}
+use Rattle.record.specs.Answered.{StepAnswer, Stepped}
+use Rattle.record.specs.declared.Progress.{Progress}
 use Rattle.record.specs.declared.Record.{Record}
 use Rattle.model.specs.Log.{Placed}
 use Rattle.model.specs.Index.{IndexRule}
@@ -36,7 +36,7 @@ use Rattle.laws.specs.SaidLaws.{step-says}
 use Rattle.laws.specs.Stores.{stored_next, stored-all}
 use Rattle.laws.specs.Operated.{Accepted}
 use Rattle.laws.specs.OperationsKept.{edition-laws}
-use Rattle.index.specs.declared.Built.{Built}
+use Rattle.index.specs.Build.{Built}
 use Rattle.telling.specs.Agree.{tested_store}
 use Rattle.stepping.specs.Tested.{StepTested}
 use Rattle.telling.proofs.TestLaws.{tested-turn, never-bad}
@@ -45,12 +45,13 @@ use Rattle.telling.proofs.PlanLaws.{accepted}
 use Rattle.stepping.specs.Finish.{After, refused_step, answered_with, found_in, finish_entry, finish_append, finish_head, finish_clean, finish_forget, one_less, finish_with, advanced}
 use Rattle.stepping.specs.ExactLaws.{Ends}
 use Rattle.stepping.proofs.ExactLaws.{operation-ends}
-use Rattle.telling.specs.declared.NextStore.{NextStore}
-use Rattle.telling.specs.declared.NextStore.TheVariants.{At, Bad}
+use Rattle.record.specs.AnswerLaws.{some-same}
+use Rattle.record.specs.declared.ToldStore.{ToldStore}
+use Rattle.telling.specs.Next.{NextStore}
 use Rattle.stepping.specs.StepLaws.{refused-same}
 
 -- no place and some place are not the same
-bad-at : {p b : ℕ} → ◌≡◌ {A = NextStore} Bad (At p b) → ⊥
+bad-at : {p b : ℕ} → ◌≡◌ {A = NextStore} None (Some (record { place = p; byte = b })) → ⊥
 bad-at q = let z : ◌≡◌ {A = ℕ} 0 1 = cc in omega arith
 
 -- ---- refused
@@ -60,7 +61,7 @@ same_byte [] = (0, 0, refl)
 same_byte (b ∷ s) = (0, b, refl)
 
 -- a refusal leaves no stores
-refused-left : (r : Record) (c : Refusal) (k : ℕ) → (refused_step r c).answer ≡ StepAnswer.Left k → ⊥
+refused-left : (r : Record) (c : Refusal) (k : ℕ) → (refused_step r c).answer ≡ Ok (Progress.Left k) → ⊥
 refused-left r c k e = let z : ◌≡◌ {A = ℕ} 0 1 = cc in absurd (omega arith)
 
 module _ (L : Layout) (r : Record) (area cells work : List ℕ) (c : Refusal) (first : first_cause (step_causes L r (lent_lengths area cells work)) ≡ some c) where
@@ -120,16 +121,16 @@ module _ (L : Layout) (idle : Record) (log : List Placed) where
 
 module _ (r : Record) where
   abbrev Late : Stepped → Type 0
-  Late x = (c : Refusal) → x.answer ≡ StepAnswer.Refused c → x ≡ refused_step r BadRecord
+  Late x = (c : Refusal) → x.answer ≡ Err c → x ≡ refused_step r BadRecord
 
   answered-late : (done : Commit) (version : ℕ) (counts : List ℕ) (b : Built) → Late (answered_with r done version counts b)
   unfolding answered_with pick
-  answered-late done version counts (Built.Keys n) = go (ltb n r.cells)
+  answered-late done version counts (Some n) = go (ltb n r.cells)
     where
-      go : (t : Bool) → Late (pick t (record { answer = StepAnswer.Done (record { 0 = version }); rec = committed r done n counts }) (refused_step r BadRecord))
+      go : (t : Bool) → Late (pick t (record { answer = Ok (Progress.Done (record { 0 = version })); rec = committed r done n counts }) (refused_step r BadRecord))
       go true c f = let z : ◌≡◌ {A = ℕ} 0 1 = cc in absurd (omega arith)
       go false c f = refl
-  answered-late done version counts Built.TooMany = λ c f. refl
+  answered-late done version counts None = λ c f. refl
 
 module _ (L : Layout) (r : Record) (area cells : List ℕ) where
   found-late : (W : Layout) (done : Commit) (slot place : ℕ) (f : Found) → Late r (found_in W r done area cells slot place f).stepped
@@ -153,7 +154,7 @@ module _ (L : Layout) (r : Record) (area cells : List ℕ) where
       go : (t : Bool) → Late r
           (pick t
           (record {
-            stepped = record { answer = StepAnswer.Left (stores_left r.pending - 1); rec = with_pending r (one_less r.pending) };
+            stepped = record { answer = Ok (Progress.Left (stores_left r.pending - 1)); rec = with_pending r (one_less r.pending) };
             cells = cells;
           })
           (finish_with L r area cells r.pending)).stepped
@@ -164,17 +165,17 @@ module _ (L : Layout) (r : Record) (area cells : List ℕ) where
 
 module _ (r : Record) where
   abbrev Going : Stepped → Type 0
-  Going x = (k : ℕ) → x.answer ≡ StepAnswer.Left k → x.rec ≡ with_pending r x.rec.pending
+  Going x = (k : ℕ) → x.answer ≡ Ok (Progress.Left k) → x.rec ≡ with_pending r x.rec.pending
 
   -- the last step leaves none
   answered-going : (done : Commit) (version : ℕ) (counts : List ℕ) (b : Built) → Going (answered_with r done version counts b)
   unfolding answered_with pick
-  answered-going done version counts (Built.Keys n) = go (ltb n r.cells)
+  answered-going done version counts (Some n) = go (ltb n r.cells)
     where
-      go : (t : Bool) → Going (pick t (record { answer = StepAnswer.Done (record { 0 = version }); rec = committed r done n counts }) (refused_step r BadRecord))
+      go : (t : Bool) → Going (pick t (record { answer = Ok (Progress.Done (record { 0 = version })); rec = committed r done n counts }) (refused_step r BadRecord))
       go true k f = let z : ◌≡◌ {A = ℕ} 0 1 = cc in absurd (omega arith)
       go false k f = absurd (refused-left r BadRecord k f)
-  answered-going done version counts Built.TooMany = λ k f. absurd (refused-left r BadRecord k f)
+  answered-going done version counts None = λ k f. absurd (refused-left r BadRecord k f)
 
 module _ (L : Layout) (r : Record) (area cells : List ℕ) where
   found-going : (W : Layout) (done : Commit) (slot place : ℕ) (f : Found) → Going r (found_in W r done area cells slot place f).stepped
@@ -198,7 +199,7 @@ module _ (L : Layout) (r : Record) (area cells : List ℕ) where
       go : (t : Bool) → Going r
           (pick t
           (record {
-            stepped = record { answer = StepAnswer.Left (stores_left r.pending - 1); rec = with_pending r (one_less r.pending) };
+            stepped = record { answer = Ok (Progress.Left (stores_left r.pending - 1)); rec = with_pending r (one_less r.pending) };
             cells = cells;
           })
           (finish_with L r area cells r.pending)).stepped
@@ -247,15 +248,15 @@ module _ (L : Layout) (r : Record) (area cells work : List ℕ)
     turn : tested_store L (length area) work r ≡ at_of (get_or plan s.since (0, 0))
     turn = tested-turn L (edition-laws L) r area work work-long s
 
-    no-bad : tested_store L (length area) work r ≡ Bad → ⊥
+    no-bad : tested_store L (length area) work r ≡ None → ⊥
     no-bad = never-bad L (edition-laws L) r area work work-long s
 
-    module _ (p b : ℕ) (at : tested_store L (length area) work r ≡ At p b) where
+    module _ (p b : ℕ) (at : tested_store L (length area) work r ≡ Some (record { place = p; byte = b })) where
       stores-next : set area p b ≡ stored before (take (suc s.since) plan)
       stores-next =
-          let q : At p b ≡ at_of (get_or plan s.since (0, 0)) = sym at ∙ turn in
-          let place : p ≡ (get_or plan s.since (0, 0)).0 = cc in
-          let byte : b ≡ (get_or plan s.since (0, 0)).1 = cc in
+          let q : Some (record { place = p; byte = b }) ≡ at_of (get_or plan s.since (0, 0)) = sym at ∙ turn in
+          let place : p ≡ (get_or plan s.since (0, 0)).0 = ap (λ (x : ToldStore). x.place) (some-same q) in
+          let byte : b ≡ (get_or plan s.since (0, 0)).1 = ap (λ (x : ToldStore). x.byte) (some-same q) in
           ap (λ (x : ℕ). set area x b) place ∙ ap (set area (get_or plan s.since (0, 0)).0) byte
           ∙ ap (λ (x : List ℕ). set x (get_or plan s.since (0, 0)).0 (get_or plan s.since (0, 0)).1) s.area-now
           ∙ sym (stored_next before plan s.since s.some_left)
@@ -294,14 +295,14 @@ module _ (L : Layout) (r : Record) (area cells work : List ℕ)
           where
             answer :
                 ◌≡◌ {A = Stepped}
-                (record { answer = StepAnswer.Left (stores_left r.pending - 1); rec = with_pending r (one_less r.pending) })
-                (record { answer = StepAnswer.Left (suc k); rec = with-left (suc k) })
+                (record { answer = Ok (Progress.Left (stores_left r.pending - 1)); rec = with_pending r (one_less r.pending) })
+                (record { answer = Ok (Progress.Left (suc k)); rec = with-left (suc k) })
             answer =
                 let less : stores_left r.pending - 1 ≡ suc k = omega (arith, left-now) in
                 let one : length plan - s.since - 1 ≡ suc k = omega arith in
-                ap (λ (n : ℕ). record { answer = StepAnswer.Left n; rec = with_pending r (one_less r.pending) }) less
-                ∙ ap (λ (x : Record). record { answer = StepAnswer.Left (suc k); rec = with_pending x (one_less x.pending) }) s.record-now
-                ∙ ap (λ (q : Pending). record { answer = StepAnswer.Left (suc k); rec = with_pending idle q })
+                ap (λ (n : ℕ). record { answer = Ok (Progress.Left n); rec = with_pending r (one_less r.pending) }) less
+                ∙ ap (λ (x : Record). record { answer = Ok (Progress.Left (suc k)); rec = with_pending x (one_less x.pending) }) s.record-now
+                ∙ ap (λ (q : Pending). record { answer = Ok (Progress.Left (suc k)); rec = with_pending idle q })
                 ((counts-down L idle log s.operation (length plan - s.since)).1 ∙ ap (laid L idle log s.operation).pending one)
 
         ends_now : length plan - s.since ≡ 1 → Gives (advanced L r (set area p b) cells) zero
@@ -356,7 +357,7 @@ module _ (L : Layout) (r : Record) (area cells work : List ℕ)
 
   -- ---- the promise, where there is no next store, and where it is made
 
-  module _ (bad : tested_store L (length area) work r ≡ Bad) {x : Stepped} where
+  module _ (bad : tested_store L (length area) work r ≡ None) {x : Stepped} where
     pub bad-promise : StepPromise L r area area cells cells work x
     bad-promise =
         record {
@@ -375,7 +376,7 @@ module _ (L : Layout) (r : Record) (area cells work : List ℕ)
           goes_on = λ k f. absurd (refused-left r BadRecord k (ap (λ (y : Stepped). y.answer) (sym e) ∙ f));
         }
 
-  module _ (p b : ℕ) (at : tested_store L (length area) work r ≡ At p b) {x : Stepped} {cells' : List ℕ}
+  module _ (p b : ℕ) (at : tested_store L (length area) work r ≡ Some (record { place = p; byte = b })) {x : Stepped} {cells' : List ℕ}
       (e : record { stepped = x; cells = cells' } ≡ advanced L r (set area p b) cells) where
     pub stored-promise : length cells' ≡ length cells → StepPromise L r area (set area p b) cells cells' work x
     stored-promise same =
@@ -387,7 +388,7 @@ module _ (L : Layout) (r : Record) (area cells work : List ℕ)
         }
 
     -- a step with more than one store left is not refused behind its store
-    last-only : (c : Refusal) → x.answer ≡ StepAnswer.Refused c → stores_left r.pending ≡ 1
+    last-only : (c : Refusal) → x.answer ≡ Err c → stores_left r.pending ≡ 1
     unfolding advanced
     last-only c f = go (ltb 1 (stores_left r.pending)) refl
       where
@@ -396,7 +397,7 @@ module _ (L : Layout) (r : Record) (area cells work : List ℕ)
 
         go : (t : Bool) → ltb 1 (stores_left r.pending) ≡ t → stores_left r.pending ≡ 1
         go true t =
-            let w : StepAnswer.Left (stores_left r.pending - 1) ≡ StepAnswer.Refused c =
+            let w : ◌≡◌ {A = StepAnswer} (Ok (Progress.Left (stores_left r.pending - 1))) (Err c) =
             sym (ap (λ (a : After). a.stepped.answer) (e ∙ pick_true (ltb 1 (stores_left r.pending)) _ _ t)) ∙ f in
             let z : ◌≡◌ {A = ℕ} 0 1 = cc in
             absurd (omega arith)
@@ -414,8 +415,8 @@ module _ (L : Layout) (r : Record) (area cells work : List ℕ)
           goes_on = λ k f. subst (λ (a : After). Going r a.stepped) (sym e) (advanced-going L r (set area p b) cells) k f;
         }
       where
-        same_store : (q c : ℕ) → ◌≡◌ {A = NextStore} (At p b) (At q c) → set area p b ≡ set area q c
+        same_store : (q c : ℕ) → ◌≡◌ {A = NextStore} (Some (record { place = p; byte = b })) (Some (record { place = q; byte = c })) → set area p b ≡ set area q c
         same_store q c w =
-            let place : p ≡ q = cc in
-            let byte : b ≡ c = cc in
+            let place : p ≡ q = ap (λ (x : ToldStore). x.place) (some-same w) in
+            let byte : b ≡ c = ap (λ (x : ToldStore). x.byte) (some-same w) in
             ap (λ (x : ℕ). set area x b) place ∙ ap (set area q) byte

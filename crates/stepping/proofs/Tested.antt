@@ -4,7 +4,7 @@ use Rattle.std.proofs.Math.Option.{none}
 use Rattle.segment.proofs.Choice.{pick-false}
 use Rattle.segment.specs.Layout.{Layout, version_limit, number_limit}
 use Rattle.record.specs.declared.Refusal.TheVariants.{BadRecord}
-use Rattle.record.specs.declared.Stepped.{Stepped}
+use Rattle.record.specs.Answered.{Stepped}
 use Rattle.record.specs.declared.Record.{Record}
 use Rattle.model.specs.Causes.{first_cause}
 use Rattle.model.specs.Refused.{step_causes}

@@ -1,5 +1,5 @@
 -- 01, "Operations, store by store": the record and the index after a step's store, as total functions of the area after it.
-use Rattle.std.specs.Prelude.{ℕ, zero, suc, ◌+◌, ◌*◌, ◌-◌, List, [], ◌∷◌, ltb, length, take}
+use Rattle.std.specs.Prelude.{ℕ, zero, suc, ◌+◌, ◌*◌, ◌-◌, List, [], ◌∷◌, ltb, length, take, Ok, Err, Some, None}
 use Rattle.segment.specs.Choice.{pick}
 use Rattle.segment.specs.Layout.{Layout, digest_size}
 use Rattle.segment.specs.Entry.{Found, entry, end, damage, entry_at, key_of}
@@ -12,16 +12,15 @@ use Rattle.record.specs.declared.Commit.{Commit}
 use Rattle.record.specs.declared.Pending.{Pending}
 use Rattle.record.specs.declared.Pending.TheVariants.{Idle, Append, NewHead, Clean, Forget}
 use Rattle.record.specs.declared.Refusal.{Refusal}
-use Rattle.record.specs.declared.Stepped.{Stepped}
-use Rattle.record.specs.declared.StepAnswer.{StepAnswer}
+use Rattle.record.specs.Answered.{Stepped, StepAnswer}
+use Rattle.record.specs.declared.Progress.{Progress}
 use Rattle.record.specs.declared.Record.{Record}
 use Rattle.model.specs.Log.{segment_of}
 use Rattle.model.specs.Operations.{next_after, append_commit, head_commit}
 use Rattle.model.specs.Counts.{more_bytes, object_size}
 use Rattle.counting.specs.Counting.{lost_at, renewed_at}
 use Rattle.index.specs.Insert.{inserted}
-use Rattle.index.specs.Build.{Rebuilt, built}
-use Rattle.index.specs.declared.Built.{Built}
+use Rattle.index.specs.Build.{Rebuilt, built, Built}
 use Rattle.index.specs.declared.Inserted.{Inserted}
 
 -- What a step leaves besides the area: its answer with the record, and the cells of the index.
@@ -30,7 +29,7 @@ pub record After : Type 0 where
   pub cells : List ℕ
 
 abbrev pub refused_step : Record → Refusal → Stepped
-refused_step r c = record { answer = StepAnswer.Refused c; rec = r }
+refused_step r c = record { answer = Err c; rec = r }
 
 -- a log or an index that the rules forbid, which only a record that is not genuine meets
 abbrev pub unfit : Record → List ℕ → After
@@ -40,17 +39,17 @@ unfit r cells = record { stepped = refused_step r Refusal.BadRecord; cells = cel
 
 -- how many keys there are after an insertion
 unfoldable pub keys_after : Inserted → ℕ → Built
-keys_after Inserted.New n = Built.Keys (n + 1)
-keys_after (Inserted.Newer old) n = Built.Keys n
-keys_after Inserted.Older n = Built.Keys n
-keys_after Inserted.Full n = Built.TooMany
+keys_after Inserted.New n = Some (n + 1)
+keys_after (Inserted.Newer old) n = Some n
+keys_after Inserted.Older n = Some n
+keys_after Inserted.Full n = None
 
 -- The version is told, and the record gets its number of keys, which stays below the number of cells, and its present bytes.
 unfoldable pub answered_with : Record → Commit → ℕ → List ℕ → Built → Stepped
-answered_with r done version counts (Built.Keys n) =
-    pick (ltb n r.cells) (record { answer = StepAnswer.Done (record { 0 = version }); rec = committed r done n counts })
+answered_with r done version counts (Some n) =
+    pick (ltb n r.cells) (record { answer = Ok (Progress.Done (record { 0 = version })); rec = committed r done n counts })
     (refused_step r Refusal.BadRecord)
-answered_with r done version counts Built.TooMany = refused_step r Refusal.BadRecord
+answered_with r done version counts None = refused_step r Refusal.BadRecord
 
 -- 02, R-5: where an insertion replaces an older entry of the key, the object that stands there counts no longer,
 unfoldable pub lost_by : ℕ → List ℕ → Inserted → List ℕ → List ℕ
@@ -150,7 +149,7 @@ unfoldable pub advanced : Layout → Record → List ℕ → List ℕ → After
 advanced L r area cells =
     pick (ltb 1 (stores_left r.pending))
     (record {
-      stepped = record { answer = StepAnswer.Left (stores_left r.pending - 1); rec = with_pending r (one_less r.pending) };
+      stepped = record { answer = Ok (Progress.Left (stores_left r.pending - 1)); rec = with_pending r (one_less r.pending) };
       cells = cells;
     })
     (finish_with L r area cells r.pending)

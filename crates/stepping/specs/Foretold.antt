@@ -1,5 +1,5 @@
 -- What is told of the next store and what the step that follows does, for every input: one theorem about the two calls.
-use Rattle.std.specs.Prelude.{ℕ, ◌≡◌, List, ◌⊎◌, length, set}
+use Rattle.std.specs.Prelude.{ℕ, ◌≡◌, List, ◌⊎◌, length, set, Ok, Err}
 use Rattle.std.proofs.Math.Path.{refl}
 use Rattle.std.proofs.Common.{sym, ◌∙◌, ap, subst, ne_eqb}
 use Rattle.std.proofs.Math.Bool.{not}
@@ -8,8 +8,7 @@ use Rattle.std.proofs.Math.Option.{Option, none, some}
 use Rattle.std.proofs.Math.Decide.{ℕ_discrete}
 use Rattle.record.specs.declared.Refusal.TheVariants.{BadRecord}
 use Rattle.record.specs.declared.Record.{Record}
-use Rattle.record.specs.declared.Stepped.{Stepped}
-use Rattle.record.specs.declared.TellAnswer.{TellAnswer}
+use Rattle.record.specs.Answered.{Stepped, TellAnswer}
 use Rattle.model.specs.Promises.{StepRefused}
 
 -- An index of another length than the record's was lent, which only the step looks at: it is refused with 4 and changes nothing.
@@ -20,5 +19,5 @@ pub record OtherIndex (r : Record) (area area' cells cells' : List ℕ) (a : Ste
 -- What the step does that gets the same record, area and work buffer, and any index. The store that was told is the one that it makes;
 -- where a refusal was told it is refused so too, and changes nothing.
 unfoldable pub Follows : Record → List ℕ → List ℕ → List ℕ → List ℕ → Stepped → TellAnswer → Type 0
-Follows r area area' cells cells' a (TellAnswer.At place byte) = (area' ≡ set area place byte) ⊎ OtherIndex r area area' cells cells' a
-Follows r area area' cells cells' a (TellAnswer.Refused c) = StepRefused r area area' cells cells' a c ⊎ OtherIndex r area area' cells cells' a
+Follows r area area' cells cells' a (Ok s) = (area' ≡ set area s.place s.byte) ⊎ OtherIndex r area area' cells cells' a
+Follows r area area' cells cells' a (Err c) = StepRefused r area area' cells cells' a c ⊎ OtherIndex r area area' cells cells' a

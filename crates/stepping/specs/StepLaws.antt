@@ -10,7 +10,7 @@ use Rattle.std.proofs.Math.ListN.{length, set}
 use borrow.Author.Tests.{lt-ltb, le-ltb, ltb-false, not-false}
 use Rattle.record.specs.Answers.{step_said}
 use Rattle.record.specs.declared.Refusal.{Refusal}
-use Rattle.record.specs.declared.Stepped.{Stepped}
+use Rattle.record.specs.Answered.{Stepped}
 use Rattle.record.specs.declared.Record.{Record}
 use Rattle.model.specs.Promises.{StepRefused}
 use Rattle.stepping.specs.Finish.{refused_step}

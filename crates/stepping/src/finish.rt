@@ -13,12 +13,12 @@ ghost use Rattle.telling.specs.Next.{PendingIn};
 ghost use Rattle.telling.specs.Agree.{agrees_with};
 
 use counting::{lost_at, more, renew};
+use index::Inserted;
 use index::build::build;
 use index::put::insert;
-use index::{Built, Inserted};
 use record::{
-    Commit, Pending, Record, Refusal, StepAnswer, Stepped, committed, new_edition, stores_left,
-    with_pending,
+    Answered, Commit, Pending, Progress, Record, Refusal, Stepped, committed, new_edition,
+    stores_left, with_pending,
 };
 use segment::area::cut;
 use segment::layout::digest_size;
@@ -30,8 +30,8 @@ use slot_map::{with_slot, without_slots};
 pub fn refused(rec: Record, cause: Refusal) -> Stepped
     ensures { result ≡ refused_step rec cause }
 {
-    Stepped {
-        answer: StepAnswer::Refused(cause),
+    Answered {
+        answer: Err(cause),
         rec: rec,
     }
 }
@@ -72,14 +72,14 @@ fn head_commit(rec: Record, slot: u32, count: u32, map: u32, next: Version) -> C
 }
 
 // How many keys there are after an insertion.
-fn keys_after(answer: Inserted, keys: u32) -> Built
+fn keys_after(answer: Inserted, keys: u32) -> Option<usize>
     ensures { result ≡ keys_after answer keys }
 {
     match answer {
-        Inserted::New => Built::Keys(keys as usize + 1),
-        Inserted::Newer(_) => Built::Keys(keys as usize),
-        Inserted::Older => Built::Keys(keys as usize),
-        Inserted::Full => Built::TooMany,
+        Inserted::New => Some(keys as usize + 1),
+        Inserted::Newer(_) => Some(keys as usize),
+        Inserted::Older => Some(keys as usize),
+        Inserted::Full => None,
     }
 }
 
@@ -111,20 +111,26 @@ fn entry_counts(rec: Record, area: &[u8], answer: Inserted, slot: u32, bytes: us
 }
 
 // The version is told, and the new record gets its number of keys and its present bytes.
-fn answered(rec: Record, done: Commit, version: Version, counts: [u32; 32], keys: Built) -> Stepped
+fn answered(
+    rec: Record,
+    done: Commit,
+    version: Version,
+    counts: [u32; 32],
+    keys: Option<usize>,
+) -> Stepped
     ensures { result ≡ answered_with rec done version.0 counts keys }
 {
     match keys {
-        Built::Keys(n) => {
+        Some(n) => {
             if n < rec.cells as usize {
-                return Stepped {
-                    answer: StepAnswer::Done(version),
+                return Answered {
+                    answer: Ok(Progress::Done(version)),
                     rec: committed(rec, done, n as u32, counts),
                 };
             }
             refused(rec, Refusal::BadRecord)
         }
-        Built::TooMany => refused(rec, Refusal::BadRecord),
+        None => refused(rec, Refusal::BadRecord),
     }
 }
 
@@ -242,7 +248,7 @@ const SLOTS: [u8; 32] = [
 ];
 
 // The index rebuilt under a map, slot by slot in the order of the first of a list.
-fn rebuild(rec: Record, area: &[u8], index: &mut [u32], order: &[u8], map: u32) -> Built
+fn rebuild(rec: Record, area: &[u8], index: &mut [u32], order: &[u8], map: u32) -> Option<usize>
     requires { (rec.size ≤ 2048) × (rec.slots ≤ length order.now) }
     ensures { ◌≡◌ {A = Rebuilt} (record { answer = result; cells = index.new })
         (built area.now rec.size map (take rec.slots order.now) (length index.old)) }
@@ -420,8 +426,8 @@ pub fn advance(rec: Record, area: &[u8], index: &mut [u32]) -> Stepped
     let left = stores_left(pending);
     if 1 < left {
         let rest = one_less(pending);
-        return Stepped {
-            answer: StepAnswer::Left(left - 1),
+        return Answered {
+            answer: Ok(Progress::Left(left - 1)),
             rec: with_pending(rec, rest),
         };
     }

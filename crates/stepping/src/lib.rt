@@ -6,7 +6,7 @@ ghost use Rattle.stepping.specs.Tested.{StepTested};
 
 use finish::{advance, refused};
 use record::range::fits_lent;
-use record::{Record, Refusal, Stepped, TellAnswer};
+use record::{Record, Refusal, Stepped};
 use telling::tell::store_of;
 
 pub mod finish;
@@ -24,9 +24,9 @@ pub fn step(rec: Record, area: &mut [u8], index: &mut [u32], work: &[u8]) -> Ste
         return refused(rec, Refusal::BadRecord);
     }
     match store_of(rec, area, work) {
-        TellAnswer::Refused(cause) => refused(rec, cause),
-        TellAnswer::At { place, byte } => {
-            area[place as usize] = byte;
+        Err(cause) => refused(rec, cause),
+        Ok(next) => {
+            area[next.place as usize] = next.byte;
             advance(rec, area, index)
         }
     }

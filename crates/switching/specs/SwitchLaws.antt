@@ -14,7 +14,7 @@ use Rattle.record.specs.declared.Pending.TheVariants.{Idle, Append, NewHead, Cle
 use Rattle.record.specs.declared.Record.{Record}
 use Rattle.record.specs.declared.Refusal.{Refusal}
 use Rattle.record.specs.declared.Refusal.TheVariants.{BadRecord, Busy}
-use Rattle.record.specs.declared.Switching.{Switching}
+use Rattle.record.specs.Answered.{Switching}
 use Rattle.model.specs.Causes.{when, first_cause}
 use Rattle.model.specs.Refused.{is_pending}
 use Rattle.model.specs.Switching.{switch_causes, switching, SwitchPromise}

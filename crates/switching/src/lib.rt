@@ -4,26 +4,26 @@
 ghost use Rattle.model.specs.Switching.{SwitchPromise};
 
 use record::range::in_range;
-use record::{Pending, Record, Refusal, SwitchAnswer, Switching, switched_on};
+use record::{Answered, Pending, Record, Refusal, Switching, switched_on};
 
 pub fn switch(rec: Record) -> Switching
     ensures { SwitchPromise rec.edition rec result }
 {
     if !in_range(rec) {
-        return Switching {
-            answer: SwitchAnswer::Refused(Refusal::BadRecord),
+        return Answered {
+            answer: Err(Refusal::BadRecord),
             rec,
         };
     }
     let pending = rec.pending;
     if let Pending::Idle = pending {
-        return Switching {
-            answer: SwitchAnswer::Switched,
+        return Answered {
+            answer: Ok(()),
             rec: switched_on(rec),
         };
     }
-    Switching {
-        answer: SwitchAnswer::Refused(Refusal::Busy),
+    Answered {
+        answer: Err(Refusal::Busy),
         rec,
     }
 }

@@ -1,5 +1,5 @@
 -- Laws of: The tests before a step's store at each test of the code, what they say, and that a started operation passes them.
-use Rattle.std.specs.Prelude.{ℕ, ◌+◌, ◌-◌, ◌≤◌, ◌<◌, Bool, List, ltb, leb}
+use Rattle.std.specs.Prelude.{ℕ, ◌+◌, ◌-◌, ◌≤◌, ◌<◌, Bool, List, ltb, leb, None}
 use Rattle.std.proofs.Math.Path.{◌≡◌, refl, sym}
 use Rattle.std.proofs.Common.{◌∙◌, ap}
 use Rattle.std.proofs.Math.Bool.{true, false, not}
@@ -26,10 +26,8 @@ use Rattle.model.specs.Operations.{Operation, write, delete, clean, Laid, laid, 
 use Rattle.laws.specs.Operated.{Accepted}
 use Rattle.laws.specs.Entering.{Entering, idle-lent, write-enters, delete-next, delete-enters}
 use Rattle.laws.specs.Cleanings.{Cleaning, clean-cleans, forget-cleans}
-use Rattle.telling.specs.Next.{next_store}
+use Rattle.telling.specs.Next.{next_store, NextStore}
 use Rattle.telling.specs.Agree.{entry_agrees, slot_agrees, victims_agree, forget_agrees, agrees_with, tested_store}
-use Rattle.telling.specs.declared.NextStore.{NextStore}
-use Rattle.telling.specs.declared.NextStore.TheVariants.{Bad}
 use Rattle.telling.specs.AgreeLaws.{EntryIn, SlotIn, entry_in, entry_layout, slot-in, takes_number, takes_version}
 
 -- ---- at each test of the code
@@ -108,7 +106,7 @@ module _ (L : Layout) (r : Record) where
 -- ---- the next store behind these tests; t is what the code finds for them
 
 module _ (L : Layout) (area_length : ℕ) (work : List ℕ) (r : Record) {t : Bool} (found : t ≡ agrees_with L r r.pending) where
-  pub tested-unfit : not t ≡ true → tested_store L area_length work r ≡ Bad
+  pub tested-unfit : not t ≡ true → tested_store L area_length work r ≡ None
   unfolding tested_store
   tested-unfit e = pick-false _ _ _ (sym found ∙ not-true t e)
 

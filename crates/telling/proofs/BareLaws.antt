@@ -1,5 +1,5 @@
 -- What is found of the next store does not look at the present bytes, so that the record without them tells as much.
-use Rattle.std.specs.Prelude.{ℕ, ◌≡◌, Bool, true, false, not, List}
+use Rattle.std.specs.Prelude.{ℕ, ◌≡◌, Bool, true, false, not, List, Err, None}
 use Rattle.std.proofs.Math.Path.{refl, sym, ap}
 use Rattle.std.proofs.Common.{◌∙◌}
 use Rattle.std.proofs.Math.Option.{Option, none, some}
@@ -14,16 +14,14 @@ use Rattle.record.specs.declared.Pending.TheVariants.{Idle, Append, NewHead, Cle
 use Rattle.record.specs.declared.Record.{Record}
 use Rattle.record.specs.declared.Refusal.{Refusal}
 use Rattle.record.specs.declared.Refusal.TheVariants.{BadRecord}
-use Rattle.record.specs.declared.TellAnswer.{TellAnswer}
+use Rattle.record.specs.Answered.{TellAnswer}
 use Rattle.model.specs.Causes.{first_cause}
 use Rattle.model.specs.Refused.{Lengths, step_causes}
 use Rattle.laws.specs.CauseLaws.{cause-skip}
 use Rattle.telling.specs.Agree.{entry_agrees, slot_agrees, victims_agree, forget_agrees, agrees_with, tested_store}
-use Rattle.telling.specs.Next.{pending_next}
+use Rattle.telling.specs.Next.{pending_next, NextStore}
 use Rattle.telling.proofs.TestLaws.{step-bad}
 use Rattle.telling.specs.Told.{told_store, told_unless, found_by, told_by}
-use Rattle.telling.specs.declared.NextStore.{NextStore}
-use Rattle.telling.specs.declared.NextStore.TheVariants.{Bad}
 
 module _ (L : Layout) (r : Record) where
   agrees-bare : (p : Pending) → agrees_with L (bare r) p ≡ agrees_with L r p
@@ -45,8 +43,8 @@ module _ (L : Layout) (r : Record) where
   tested-bare : (area_length : ℕ) (work : List ℕ) → tested_store L area_length work (bare r) ≡ tested_store L area_length work r
   unfolding tested_store
   tested-bare area_length work =
-      ap (λ (t : Bool). pick t (pending_next area_length work (bare r) r.pending) Bad) (agrees-bare r.pending)
-      ∙ ap (λ (x : NextStore). pick (agrees_with L r r.pending) x Bad) (next-bare area_length work r.pending)
+      ap (λ (t : Bool). pick t (pending_next area_length work (bare r) r.pending) None) (agrees-bare r.pending)
+      ∙ ap (λ (x : NextStore). pick (agrees_with L r r.pending) x None) (next-bare area_length work r.pending)
 
   told-bare : (area_length : ℕ) (work : List ℕ) (o : Option Refusal) → told_unless L (bare r) area_length work o ≡ told_unless L r area_length work o
   unfolding told_unless
@@ -60,7 +58,7 @@ module _ (L : Layout) (r : Record) where
 -- ---- at each return of the code
 
 module _ (L : Layout) (r : Record) (area : List ℕ) (cells : ℕ) (work : List ℕ) {t : Bool} (found : t ≡ fits_lent L r (length area) cells) where
-  pub found-bad : not t ≡ true → TellAnswer.Refused BadRecord ≡ found_by L r area cells work
+  pub found-bad : not t ≡ true → Err BadRecord ≡ found_by L r area cells work
   unfolding told_unless
   found-bad e =
       sym (ap (told_unless L r (length area) work) (step-bad L r (record { area = length area; index = cells; work = length work }) found e))

@@ -1,5 +1,5 @@
 -- Laws of: Place and byte at each test of the code, and for a started operation: the store of its plan whose turn it is.
-use Rattle.std.specs.Prelude.{ℕ, ◌+◌, ◌*◌, ◌-◌, ◌≤◌, ◌<◌, Bool, true, false, not, List, eqb, ltb, leb, length, get_or}
+use Rattle.std.specs.Prelude.{ℕ, ◌+◌, ◌*◌, ◌-◌, ◌≤◌, ◌<◌, Bool, true, false, not, List, eqb, ltb, leb, length, get_or, None, Some}
 use Rattle.std.proofs.Math.Path.{◌≡◌, refl, sym, ap, subst⁻¹}
 use Rattle.std.proofs.Common.{◌∙◌, mul-le-mul, mul-le-mul_right}
 use Rattle.std.proofs.Math.Decide.{ℕ_discrete, dec_lt}
@@ -12,31 +12,31 @@ use Rattle.record.specs.declared.Pending.{Pending}
 use Rattle.record.specs.declared.Pending.TheVariants.{Idle, Append, NewHead, Clean, Forget}
 use Rattle.record.specs.declared.Record.{Record}
 use Rattle.starting.specs.Stores.{commit_stores, stores-full}
-use Rattle.telling.specs.Next.{commit_store, fits_slot, fits_left, slot_store, slot_next, head_target, target_of, pending_next, next_store, PendingIn}
-use Rattle.telling.specs.declared.NextStore.{NextStore}
+use Rattle.record.specs.AnswerLaws.{some-same}
+use Rattle.record.specs.declared.ToldStore.{ToldStore}
+use Rattle.telling.specs.Next.{commit_store, fits_slot, fits_left, slot_store, slot_next, head_target, target_of, pending_next, next_store, PendingIn, NextStore}
 use Rattle.telling.specs.declared.Target.{Target}
-use Rattle.telling.specs.declared.NextStore.TheVariants.{At, Bad}
 use Rattle.telling.specs.NextLaws.{Fit}
 
 -- ---- a store of a commit at each test; m is what the code finds for the number of stores
 
 module _ (base S offset n : ℕ) (work : List ℕ) (j : ℕ) {m : ℕ} (total : m ≡ commit_stores S offset n) where
-  pub store-last : j + 1 ≡ m → At (base + offset) (get_or work 0 0) ≡ commit_store base S offset n work j
+  pub store-last : j + 1 ≡ m → Some (record { place = (base + offset); byte = (get_or work 0 0) }) ≡ commit_store base S offset n work j
   unfolding commit_store
   store-last e = sym (pick_true (eqb (j + 1) (commit_stores S offset n)) _ _ (eq-eqb (j + 1) (commit_stores S offset n) (e ∙ total)))
 
   module _ (more : j + 1 ≡ m → ⊥) where
     passed : commit_store base S offset n work j
-        ≡ pick (ltb (j + 1) n) (At (base + offset + (j + 1)) (get_or work (j + 1) 0)) (At (base + offset + n) 0)
+        ≡ pick (ltb (j + 1) n) (Some (record { place = (base + offset + (j + 1)); byte = (get_or work (j + 1) 0) })) (Some (record { place = (base + offset + n); byte = 0 }))
     unfolding commit_store
     passed =
         pick-false (eqb (j + 1) (commit_stores S offset n)) _ _
         (ne_eqb (j + 1) (commit_stores S offset n) (λ e. more (e ∙ sym total)))
 
-    pub store_byte : j + 1 < n → At (base + offset + (j + 1)) (get_or work (j + 1) 0) ≡ commit_store base S offset n work j
+    pub store_byte : j + 1 < n → Some (record { place = (base + offset + (j + 1)); byte = (get_or work (j + 1) 0) }) ≡ commit_store base S offset n work j
     store_byte h = sym (passed ∙ pick_true (ltb (j + 1) n) _ _ (lt-ltb (j + 1) n h))
 
-    pub store-end : n ≤ j + 1 → At (base + offset + n) 0 ≡ commit_store base S offset n work j
+    pub store-end : n ≤ j + 1 → Some (record { place = (base + offset + n); byte = 0 }) ≡ commit_store base S offset n work j
     store-end h = sym (passed ∙ pick-false (ltb (j + 1) n) _ _ (le-ltb (j + 1) n h))
 
 -- a slot's end fits 64 bits
@@ -87,10 +87,10 @@ module _ (area_length : ℕ) (work : List ℕ) (S slot offset n first k : ℕ) w
       fits_slot area_length (length work) S slot offset n ≡ true → 0 < k → k ≤ commit_stores S offset n + first →
       slot_next area_length work S slot offset n first k ≡ slot_store (slot * S) S offset n work first (commit_stores S offset n + first - k)
   unfolding slot_next fits_left
-  next-at e some most = pick_true _ _ _ (both_true _ _ e (both_true _ _ (lt-ltb 0 k some) (le-leb k (commit_stores S offset n + first) most)))
+  next-at e more most = pick_true _ _ _ (both_true _ _ e (both_true _ _ (lt-ltb 0 k more) (le-leb k (commit_stores S offset n + first) most)))
 
   module _ {t : Bool} (found : t ≡ fits_slot area_length (length work) S slot offset n) where
-    pub next-unfit : not t ≡ true → Bad ≡ slot_next area_length work S slot offset n first k
+    pub next-unfit : not t ≡ true → None ≡ slot_next area_length work S slot offset n first k
     unfolding slot_next
     next-unfit e = sym (pick-false _ _ _ (both-false-left _ _ (sym found ∙ not-true t e)))
 
@@ -159,10 +159,10 @@ module _ (area_length : ℕ) (work : List ℕ) (r : Record) where
 -- ---- what is known where there is a next store
 
 module _ (base S offset n : ℕ) (work : List ℕ) (j p b : ℕ) (some_byte : 0 < n) (room : offset + n ≤ S) (h : j < commit_stores S offset n)
-    (e : commit_store base S offset n work j ≡ At p b)
+    (e : commit_store base S offset n work j ≡ Some (record { place = p; byte = b }))
   where
-    same_place : (x y : ℕ) → ◌≡◌ {A = NextStore} (At x y) (At p b) → x ≡ p
-    same_place x y q = cc
+    same_place : (x y : ℕ) → ◌≡◌ {A = NextStore} (Some (record { place = x; byte = y })) (Some (record { place = p; byte = b })) → x ≡ p
+    same_place x y q = ap (λ (s : ToldStore). s.place) (some-same q)
 
     commit-inside : p < base + S
     commit-inside = go (ℕ_discrete (j + 1) (commit_stores S offset n)) (dec_lt (j + 1) n)
@@ -182,8 +182,8 @@ module _ (base S offset n : ℕ) (work : List ℕ) (j p b : ℕ) (some_byte : 0 
             ended (yes w) s = omega arith
             ended (no w) s = absurd (q (omega (arith, stores-full S offset n (omega arith))))
 
-module _ (area_length : ℕ) (work : List ℕ) (S slot offset n first k p b : ℕ) (e : slot_next area_length work S slot offset n first k ≡ At p b) where
-  never : ◌≡◌ {A = NextStore} Bad (At p b) → ⊥
+module _ (area_length : ℕ) (work : List ℕ) (S slot offset n first k p b : ℕ) (e : slot_next area_length work S slot offset n first k ≡ Some (record { place = p; byte = b })) where
+  never : ◌≡◌ {A = NextStore} None (Some (record { place = p; byte = b })) → ⊥
   never q = let z : ◌≡◌ {A = ℕ} 0 1 = cc in omega arith
 
   pub slot_at : Fit area_length (length work) S slot offset n × (p < area_length)
@@ -191,17 +191,17 @@ module _ (area_length : ℕ) (work : List ℕ) (S slot offset n first k p b : �
   slot_at = go (both (fits_slot area_length (length work) S slot offset n) (both (ltb 0 k) (leb k (commit_stores S offset n + first)))) refl
     where
       placed : Fit area_length (length work) S slot offset n → 0 < k → k ≤ commit_stores S offset n + first
-          → slot_store (slot * S) S offset n work first (commit_stores S offset n + first - k) ≡ At p b → p < area_length
-      placed f some most q = by (dec_lt (commit_stores S offset n + first - k) first)
+          → slot_store (slot * S) S offset n work first (commit_stores S offset n + first - k) ≡ Some (record { place = p; byte = b }) → p < area_length
+      placed f more most q = by (dec_lt (commit_stores S offset n + first - k) first)
         where
           by : Dec (commit_stores S offset n + first - k < first) → p < area_length
           by (yes d) =
-              let s : At (slot * S) 0 ≡ At p b =
+              let s : Some (record { place = (slot * S); byte = 0 }) ≡ Some (record { place = p; byte = b }) =
               sym (pick_true (ltb (commit_stores S offset n + first - k) first) _ _ (lt-ltb (commit_stores S offset n + first - k) first d)) ∙ q in
-              let same : slot * S ≡ p = cc in
+              let same : slot * S ≡ p = ap (λ (t : ToldStore). t.place) (some-same s) in
               omega (arith, f.some, f.room, f.inside)
           by (no d) =
-              let s : commit_store (slot * S) S offset n work (commit_stores S offset n + first - k - first) ≡ At p b =
+              let s : commit_store (slot * S) S offset n work (commit_stores S offset n + first - k - first) ≡ Some (record { place = p; byte = b }) =
               sym (pick-false (ltb (commit_stores S offset n + first - k) first) _ _ (le-ltb (commit_stores S offset n + first - k) first (omega arith))) ∙ q in
               omega (
                 arith,
@@ -221,7 +221,7 @@ module _ (area_length : ℕ) (work : List ℕ) (S slot offset n first k p b : �
 
 -- A slot whose segment lies in the area is one of the store's.
 pub slot-below : (slots S slot : ℕ) → 0 < S → slot * S + S ≤ slots * S → slot < slots
-slot-below slots S slot some h = go (dec_lt slot slots)
+slot-below slots S slot more h = go (dec_lt slot slots)
   where
     go : Dec (slot < slots) → slot < slots
     go (yes l) = l
@@ -233,7 +233,7 @@ module _ (area_length : ℕ) (work : List ℕ) (r : Record) (p b : ℕ) (head : 
   own-slot : (i o n : ℕ) → Fit area_length (length work) r.size i o n → i < r.slots
   own-slot i o n f = slot-below r.slots r.size i (omega (arith, f.some, f.room)) (omega (arith, f.inside))
 
-  pub next-inside : (q : Pending) → pending_next area_length work r q ≡ At p b → PendingIn r q × (p < area_length)
+  pub next-inside : (q : Pending) → pending_next area_length work r q ≡ Some (record { place = p; byte = b }) → PendingIn r q × (p < area_length)
   unfolding pending_next PendingIn
   next-inside Idle e = let z : ◌≡◌ {A = ℕ} 0 1 = cc in absurd (omega arith)
   next-inside (Append n k) e =

@@ -1,6 +1,6 @@
 -- Laws of: For a started operation the next store is the one of its plan whose turn it is.
 use Prim.Native.Nat.{ℕ, zero, suc, ◌+◌, ◌*◌, ◌-◌, ◌≤◌, ◌<◌}
-use Rattle.std.specs.Prelude.{◌≡◌, Bool, List, ◌∷◌, ◌++◌, ltb, get_or, take}
+use Rattle.std.specs.Prelude.{◌≡◌, Bool, List, ◌∷◌, ◌++◌, ltb, get_or, take, Some}
 use Rattle.std.proofs.Math.Path.{refl, ap}
 use Rattle.std.proofs.Common.{sym, ◌∙◌, subst, length-append, get_or-take}
 use Rattle.std.proofs.Math.Bool.{true, false}
@@ -32,7 +32,6 @@ use Rattle.starting.specs.Stores.{commit_stores, stores-within, stores-full, com
 use Rattle.telling.specs.Next.{commit_store, slot_store, slot_next, pending_next, next_store}
 use Rattle.telling.specs.NextLaws.{Fit}
 use Rattle.telling.proofs.NextLaws.{slot-fits, store-last, store_byte, store-end, next-at}
-use Rattle.telling.specs.declared.NextStore.TheVariants.{At}
 use Rattle.telling.specs.PlanLaws.{NextOf, at_of}
 
 -- ---- a commit
@@ -53,14 +52,14 @@ module _ (S i o : ℕ) (bytes : List ℕ) (some_byte : 0 < length bytes) where
             → commit_store (i * S) S o (length bytes) work j ≡ at_of (get_or (commit S i o bytes) j (0, 0))
         go (yes e) t q =
             sym (store-last (i * S) S o (length bytes) work j refl e)
-            ∙ ap (At (i * S + o)) (same_byte 0 some_byte)
+            ∙ ap ((λ z0. Some (record { place = (i * S + o); byte = z0 }))) (same_byte 0 some_byte)
             ∙ ap at_of (sym (commit-last S i o bytes some_byte j (e ∙ sym total-stores)))
         go (no n) true q =
             let l = ltb-true (j + 1) (length bytes) q in
             let place : i * S + o + (j + 1) ≡ i * S + o + 1 + j = omega arith in
             sym (store_byte (i * S) S o (length bytes) work j refl n l)
-            ∙ ap (At (i * S + o + (j + 1))) (same_byte (j + 1) l)
-            ∙ ap (λ (p : ℕ). At p (get_or bytes (j + 1) 0)) place
+            ∙ ap ((λ z0. Some (record { place = (i * S + o + (j + 1)); byte = z0 }))) (same_byte (j + 1) l)
+            ∙ ap (λ (p : ℕ). Some (record { place = p; byte = (get_or bytes (j + 1) 0) })) place
             ∙ ap at_of (sym (commit-byte S i o bytes some_byte j l))
         go (no n) false q = ended (ltb (o + length bytes) S) refl
           where

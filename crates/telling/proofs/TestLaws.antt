@@ -1,6 +1,6 @@
 -- The causes of a step at each test of the code, and that a started operation passes what is tested behind them: its next store is the
 -- one of its plan whose turn it is.
-use Rattle.std.specs.Prelude.{ℕ, ◌-◌, ◌≤◌, ◌<◌, ◌≡◌, refl, Bool, true, false, not, List, [], length, get_or}
+use Rattle.std.specs.Prelude.{ℕ, ◌-◌, ◌≤◌, ◌<◌, ◌≡◌, refl, Bool, true, false, not, List, [], length, get_or, None}
 use Rattle.std.proofs.Common.{sym, ◌∙◌, ap, subst, arith, lt-ltb, le-ltb}
 use Rattle.std.proofs.Math.Option.{Option, none, some}
 use Rattle.std.proofs.lemmas.Bool.{not-false}
@@ -24,7 +24,6 @@ use Rattle.telling.specs.Agree.{agrees_with, tested_store}
 use Rattle.telling.proofs.AgreeLaws.{laid-agrees}
 use Rattle.telling.specs.PlanLaws.{at_of}
 use Rattle.telling.proofs.PlanLaws.{accepted, next-started}
-use Rattle.telling.specs.declared.NextStore.TheVariants.{Bad}
 
 -- ---- the causes
 
@@ -96,8 +95,8 @@ module _ (L : Layout) (laws : OperationLaws L) (r : Record) (area work : List �
   unfolding tested_store
   tested-turn = pick_true _ _ _ started-agrees ∙ next-started L laws area r work s long-enough
 
-  pub never-bad : tested_store L (length area) work r ≡ Bad → ⊥
+  pub never-bad : tested_store L (length area) work r ≡ None → ⊥
   never-bad e =
-      let q : Bad ≡ at_of (get_or plan s.since (0, 0)) = sym e ∙ tested-turn in
+      let q : None ≡ at_of (get_or plan s.since (0, 0)) = sym e ∙ tested-turn in
       let z : ◌≡◌ {A = ℕ} 0 1 = cc in
       omega arith

@@ -1,6 +1,6 @@
 -- What is tested before a store, whatever the record: the pending operation agrees with the record, and its next store has a place. A
 -- genuine record with a started operation always passes.
-use Rattle.std.specs.Prelude.{ℕ, ◌+◌, Bool, false, not, List, ltb, leb}
+use Rattle.std.specs.Prelude.{ℕ, ◌+◌, Bool, false, not, List, ltb, leb, None}
 use Rattle.segment.specs.Choice.{pick, both}
 use Rattle.segment.specs.Layout.{Layout, entry_size, digest_size, version_limit, number_limit}
 use Rattle.slot_map.specs.Bit.{named, within}
@@ -8,9 +8,7 @@ use Rattle.record.specs.Switch.{new_layout}
 use Rattle.record.specs.declared.Pending.{Pending}
 use Rattle.record.specs.declared.Pending.TheVariants.{Idle, Append, NewHead, Clean, Forget}
 use Rattle.record.specs.declared.Record.{Record}
-use Rattle.telling.specs.Next.{next_store}
-use Rattle.telling.specs.declared.NextStore.{NextStore}
-use Rattle.telling.specs.declared.NextStore.TheVariants.{Bad}
+use Rattle.telling.specs.Next.{next_store, NextStore}
 
 -- a version is left, and n bytes hold an entry behind the first `before`
 unfoldable pub entry_agrees : Layout → Record → ℕ → ℕ → Bool
@@ -38,4 +36,4 @@ agrees_with L r (Forget i v n k) = both (slot_agrees r i) (forget_agrees (new_la
 
 -- the next store, where all the tests are passed
 unfoldable pub tested_store : Layout → ℕ → List ℕ → Record → NextStore
-tested_store L area_length work r = pick (agrees_with L r r.pending) (next_store area_length work r) Bad
+tested_store L area_length work r = pick (agrees_with L r r.pending) (next_store area_length work r) None

@@ -1,20 +1,23 @@
 -- 01, "Operations, store by store": place and byte of the next store, from the record, the work buffer and the area's length.
-use Rattle.std.specs.Prelude.{ℕ, ◌+◌, ◌*◌, ◌-◌, ◌≤◌, ◌<◌, Bool, List, eqb, ltb, leb, length, get_or}
+use Rattle.std.specs.Prelude.{ℕ, Option, ◌+◌, ◌*◌, ◌-◌, ◌≤◌, ◌<◌, Bool, List, eqb, ltb, leb, length, get_or, None, Some}
 use Rattle.segment.specs.Choice.{pick, both}
 use Rattle.record.specs.declared.Pending.{Pending}
 use Rattle.record.specs.declared.Pending.TheVariants.{Idle, Append, NewHead, Clean, Forget}
 use Rattle.record.specs.declared.Record.{Record}
+use Rattle.record.specs.declared.ToldStore.{ToldStore}
 use Rattle.starting.specs.Stores.{commit_stores}
-use Rattle.telling.specs.declared.NextStore.{NextStore}
 use Rattle.telling.specs.declared.Target.{Target}
-use Rattle.telling.specs.declared.NextStore.TheVariants.{At, Bad}
+
+-- Place and byte of the next store. A record that no start and no steps give may have none.
+abbrev pub NextStore : Type 0
+NextStore = Option ToldStore
 
 -- The store after j others, where the first n bytes of the work buffer come to an offset of the slot that begins at `base`: the
 -- bytes from the second on, the 0 after them, and last the kind byte.
 unfoldable pub commit_store : ℕ → ℕ → ℕ → ℕ → List ℕ → ℕ → NextStore
 commit_store base S offset n work j =
-    pick (eqb (j + 1) (commit_stores S offset n)) (At (base + offset) (get_or work 0 0))
-    (pick (ltb (j + 1) n) (At (base + offset + (j + 1)) (get_or work (j + 1) 0)) (At (base + offset + n) 0))
+    pick (eqb (j + 1) (commit_stores S offset n)) (Some (record { place = (base + offset); byte = (get_or work 0 0) }))
+    (pick (ltb (j + 1) n) (Some (record { place = (base + offset + (j + 1)); byte = (get_or work (j + 1) 0) })) (Some (record { place = (base + offset + n); byte = 0 })))
 
 -- The bytes are some, all in the work buffer, and fit the slot, which lies in the area.
 unfoldable pub fits_slot : ℕ → ℕ → ℕ → ℕ → ℕ → ℕ → Bool
@@ -27,12 +30,12 @@ fits_left left total = both (ltb 0 left) (leb left total)
 
 -- The store of an operation with k stores left, which makes `first` stores of 0 at the slot's byte 0 before it commits.
 unfoldable pub slot_store : ℕ → ℕ → ℕ → ℕ → List ℕ → ℕ → ℕ → NextStore
-slot_store base S offset n work first j = pick (ltb j first) (At base 0) (commit_store base S offset n work (j - first))
+slot_store base S offset n work first j = pick (ltb j first) (Some (record { place = base; byte = 0 })) (commit_store base S offset n work (j - first))
 
 unfoldable pub slot_next : ℕ → List ℕ → ℕ → ℕ → ℕ → ℕ → ℕ → ℕ → NextStore
 slot_next area_length work S slot offset n first k =
     pick (both (fits_slot area_length (length work) S slot offset n) (fits_left k (commit_stores S offset n + first)))
-    (slot_store (slot * S) S offset n work first (commit_stores S offset n + first - k)) Bad
+    (slot_store (slot * S) S offset n work first (commit_stores S offset n + first - k)) None
 
 -- Where the bytes of an operation go: an append commits at the head's end; a new head first loses its byte 0, and commits at its start.
 abbrev pub head_target : ℕ → ℕ → ℕ → Target
@@ -47,7 +50,7 @@ target_of (Forget i v n k) head end = head_target i n k
 
 -- The next store of a pending operation; none where nothing is pending.
 unfoldable pub pending_next : ℕ → List ℕ → Record → Pending → NextStore
-pending_next area_length work r Idle = Bad
+pending_next area_length work r Idle = None
 pending_next area_length work r (Append n k) = slot_next area_length work r.size r.head r.end n 0 k
 pending_next area_length work r (NewHead i n k) = slot_next area_length work r.size i 0 n 1 k
 pending_next area_length work r (Clean i v n k) = slot_next area_length work r.size i 0 n 1 k

@@ -1,10 +1,9 @@
 -- For a started operation the next store is the one of its plan whose turn it is.
 use Prim.Native.Nat.{ℕ, zero, suc, ◌+◌, ◌*◌, ◌-◌, ◌≤◌, ◌<◌}
-use Rattle.std.specs.Prelude.{◌≡◌, Bool, List, ◌∷◌, ◌++◌, ltb, get_or, take}
+use Rattle.std.specs.Prelude.{◌≡◌, Bool, List, ◌∷◌, ◌++◌, ltb, get_or, take, Some}
 use Rattle.std.proofs.Math.Path.{refl, ap}
 use Rattle.std.proofs.Common.{sym, ◌∙◌, subst, length-append, get_or-take}
 use Rattle.std.proofs.Math.Bool.{true, false}
-use Rattle.std.proofs.Math.Option.{some}
 use Rattle.std.proofs.Math.Decide.{ℕ_discrete}
 use native.Mathlib.Omega.{arith}
 use Rattle.std.proofs.Math.ListN.{length}
@@ -12,13 +11,11 @@ use borrow.Author.Tests.{ltb-true, ltb-false, leb-true, lt-ltb, le-ltb}
 use Rattle.record.specs.Answers.{with_pending}
 use Rattle.record.specs.declared.Record.{Record}
 use Rattle.model.specs.Operations.{Laid, plan_of}
-use Rattle.telling.specs.Next.{next_store}
-use Rattle.telling.specs.declared.NextStore.{NextStore}
-use Rattle.telling.specs.declared.NextStore.TheVariants.{At}
+use Rattle.telling.specs.Next.{next_store, NextStore}
 
 -- a store of a plan as the next one
 abbrev pub at_of : ℕ × ℕ → NextStore
-at_of p = At p.0 p.1
+at_of p = Some (record { place = p.0; byte = p.1 })
 
 -- ---- the operations
 

@@ -10,30 +10,36 @@ use starting::stores::commit_stores;
 
 // The store that comes after `done` others, where the first `count` bytes of the work buffer come to an offset of the slot that
 // begins at `base`.
-fn commit_place(base: usize, size: usize, offset: usize, count: usize, done: usize) -> NextPlace
+fn commit_place(
+    base: usize,
+    size: usize,
+    offset: usize,
+    count: usize,
+    done: usize,
+) -> Option<NextPlace<usize>>
     requires { (size < 4294967296) × (base + size < 18446744073709551616) × (offset + count ≤ size) × (0 < count) × (done < commit_stores size offset count) }
     ensures { result ≡ commit_place base size offset count done }
 {
     let from = done + 1;
     if from == commit_stores(size, offset, count) {
-        return NextPlace::At {
+        return Some(NextPlace {
             place: base + offset,
             from: 0,
             copied: true,
-        };
+        });
     }
     if from < count {
-        return NextPlace::At {
+        return Some(NextPlace {
             place: base + offset + from,
             from,
             copied: true,
-        };
+        });
     }
-    NextPlace::At {
+    Some(NextPlace {
         place: base + offset + count,
         from: 0,
         copied: false,
-    }
+    })
 }
 
 // Whether the bytes are some, all in the work buffer, and fit the slot, which lies in the area.
@@ -71,26 +77,26 @@ fn slot_place(
     count: usize,
     first: usize,
     left: usize,
-) -> NextPlace
+) -> Option<NextPlace<usize>>
     requires { (size < 4294967296) × (slot < 4294967296) × (offset < 4294967296) × (count < 4294967296) × (first ≤ 1) }
     ensures { result ≡ slot_place area work size slot offset count first left }
 {
     if !fits_slot(area, work, size, slot, offset, count) {
-        return NextPlace::Bad;
+        return None;
     }
     let total = commit_stores(size, offset, count) + first;
     if left == 0 {
-        return NextPlace::Bad;
+        return None;
     }
     if total < left {
-        return NextPlace::Bad;
+        return None;
     }
     if total - left < first {
-        return NextPlace::At {
+        return Some(NextPlace {
             place: slot * size,
             from: 0,
             copied: false,
-        };
+        });
     }
     commit_place(slot * size, size, offset, count, total - left - first)
 }
@@ -109,7 +115,7 @@ pub fn head_target(slot: u32, length: u32, left: u32) -> Target
 }
 
 // Where the next store goes and whence its byte comes, of an operation whose bytes go to `to`.
-pub fn next_place(size: u32, to: Target, area: usize, work: usize) -> NextPlace
+pub fn next_place(size: u32, to: Target, area: usize, work: usize) -> Option<NextPlace<usize>>
     requires { to.first ≤ 1 }
     ensures { result ≡ slot_place area work size to.slot to.offset to.count to.first to.left }
 {

@@ -8,7 +8,8 @@ ghost use Rattle.text.specs.Spelled.{Spelled};
 
 use segment::writer::copy_into;
 
-// The digits of a number stand in `bytes` from `from` on.
+// The digits of a number stand in `bytes` from `from` on. A buffer with a place beside it: how many digits there are shows only
+// once the first, which is found last, is there, and there is no heap.
 #[derive(Clone, Copy)]
 struct Spelling {
     bytes: [u8; 20],
@@ -22,6 +23,7 @@ fn spell(n: u64) -> Spelling
     let mut bytes = [0; 20];
     let mut from: usize = 19;
     let mut rest = n;
+    // A `while`: it ends by what is left of the number, and not at a place.
     while 10 <= rest {
         bytes[from] = b'0' + (rest % 10) as u8;
         rest /= 10;
@@ -45,8 +47,6 @@ pub fn put_number(buffer: &mut [u8], at: usize, n: u64) -> usize
     requires { at + length (digits n) ≤ length buffer.old }
     ensures { Put buffer.old buffer.new at result (digits n) }
 {
-    let spelling = spell(n);
-    let bytes = spelling.bytes;
-    let from = spelling.from;
+    let Spelling { bytes, from } = spell(n);
     put(buffer, at, &bytes[from..])
 }

@@ -1,7 +1,7 @@
 // 32-bit FNV-1a: its published vectors, and the hash of a key.
 use std::io;
 
-// The hash of a text, and the text in quotes.
+// The hash of a text, and the text in quotes. Bytes, and no `&str`: a text's beginnings are cut at bytes.
 fn line(rt: &impl Print, text: &[u8]) -> io::Result<()> {
     print!(rt; "{:08x} \"", word::fnv::fnv1a(text))?;
     rt.write_all(text)?;

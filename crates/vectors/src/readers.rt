@@ -4,40 +4,28 @@ use segment::reader::{digest, read};
 use segment::{Digest, Edition, Key, Read, Version};
 use std::io;
 
-// A name and a number after it.
-fn field(rt: &impl Print, name: &[u8], n: u64) -> io::Result<()> {
-    rt.write_all(name)?;
-    print!(rt; "{n}")
-}
-
-fn fields_line(rt: &impl Print, d: Digest) -> io::Result<()> {
-    let number = d.number;
-    let next = d.next;
-    field(rt, b"digest number ", number.0 as u64)?;
-    field(rt, b" map ", d.map as u64)?;
-    field(rt, b" next ", next.0 as u64)?;
-    rt.write_all(b"\n")
-}
-
 fn digest_line(rt: &impl Print, s: &[u8]) -> io::Result<()> {
     if s.len() < digest_size(Edition::First) {
         return Ok(());
     }
-    fields_line(rt, digest(Edition::First, s))
+    let d = digest(Edition::First, s);
+    println!(rt;
+        "digest number {} map {} next {}",
+        d.number.0, d.map, d.next.0
+    )
 }
 
 fn entry_line(
     rt: &impl Print,
-    name: &[u8],
+    name: &str,
     key: Key,
     version: Version,
     length: usize,
 ) -> io::Result<()> {
-    rt.write_all(name)?;
-    field(rt, b" table ", key.table as u64)?;
-    field(rt, b" key ", key.key as u64)?;
-    field(rt, b" version ", version.0 as u64)?;
-    field(rt, b" length ", length as u64)
+    print!(rt;
+        "{name} table {} key {} version {} length {length}",
+        key.table, key.key, version.0
+    )
 }
 
 // What stands at an offset of a segment, to the end of the line.
@@ -50,15 +38,15 @@ fn found(rt: &impl Print, s: &[u8], at: usize) -> io::Result<()> {
             kind,
             length,
         } => {
-            entry_line(rt, b"object", key, version, length)?;
-            field(rt, b" kind ", kind as u64)?;
+            entry_line(rt, "object", key, version, length)?;
+            print!(rt; " kind {kind}")?;
         }
         Read::Tombstone {
             key,
             version,
             length,
         } => {
-            entry_line(rt, b"tombstone", key, version, length)?;
+            entry_line(rt, "tombstone", key, version, length)?;
         }
         Read::End => {
             rt.write_all(b"end")?;
@@ -71,13 +59,13 @@ fn found(rt: &impl Print, s: &[u8], at: usize) -> io::Result<()> {
 }
 
 fn read_line(rt: &impl Print, s: &[u8], at: usize) -> io::Result<()> {
-    field(rt, b"at ", at as u64)?;
+    print!(rt; "at {at}")?;
     found(rt, s, at)
 }
 
 // What an entry's bytes alone are read as.
-fn named_line(rt: &impl Print, name: &[u8], entry: &[u8]) -> io::Result<()> {
-    rt.write_all(name)?;
+fn named_line(rt: &impl Print, name: &str, entry: &[u8]) -> io::Result<()> {
+    print!(rt; "{name}")?;
     found(rt, entry, 0)
 }
 
@@ -111,27 +99,27 @@ pub fn ends_and_damage(rt: &impl Print) -> io::Result<()> {
     read_line(rt, last, 12)?;
     named_line(
         rt,
-        b"a digest's kind",
+        "a digest's kind",
         b"\x05\x07\x00\x09\x00\x00\x00\x02\x00\x00\x00",
     )?;
     named_line(
         rt,
-        b"no kind",
+        "no kind",
         b"\x06\x07\x00\x09\x00\x00\x00\x02\x00\x00\x00",
     )?;
     named_line(
         rt,
-        b"a byte short",
+        "a byte short",
         b"\x01\x07\x00\x09\x00\x00\x00\x02\x00\x00\x00\x11\x11\x11\x11\x11\x11\x11",
     )?;
     named_line(
         rt,
-        b"version 0",
+        "version 0",
         b"\x04\x07\x00\x09\x00\x00\x00\x00\x00\x00\x00",
     )?;
     named_line(
         rt,
-        b"version 4294967295",
+        "version 4294967295",
         b"\x04\x07\x00\x09\x00\x00\x00\xff\xff\xff\xff",
     )
 }
@@ -140,24 +128,18 @@ pub fn ends_and_damage(rt: &impl Print) -> io::Result<()> {
 fn kind_line(rt: &impl Print, kind: u8) -> io::Result<()> {
     let mut entry = [0x11; 131];
     entry[0] = kind;
-    field(rt, b"kind ", kind as u64)?;
+    print!(rt; "kind {kind}")?;
     found(rt, &entry, 0)
 }
 
 // The table of kinds, and the kinds beside those that it has; the longest entry without its last byte.
 pub fn kinds(rt: &impl Print) -> io::Result<()> {
     rt.write_all(b"Kinds\n")?;
-    kind_line(rt, 0)?;
-    kind_line(rt, 1)?;
-    kind_line(rt, 2)?;
-    kind_line(rt, 3)?;
-    kind_line(rt, 4)?;
-    kind_line(rt, 5)?;
-    kind_line(rt, 6)?;
-    kind_line(rt, 7)?;
-    kind_line(rt, 8)?;
+    for kind in 0..=8 {
+        kind_line(rt, kind)?;
+    }
     kind_line(rt, 255)?;
     let mut entry = [0x11; 131];
     entry[0] = 7;
-    named_line(rt, b"kind 7, a byte short", &entry[..130])
+    named_line(rt, "kind 7, a byte short", &entry[..130])
 }

@@ -1,6 +1,6 @@
 -- Every read, conversion, start and recovery can be made: for every input there is an answer that keeps the promise, as a total function.
 -- What is proved of the definitions in `specs/Answers.antt`.
-use Rattle.std.specs.Prelude.{ℕ, ◌≡◌, Bool, List, [], ◌∷◌, eqb, replicate}
+use Rattle.std.specs.Prelude.{ℕ, ◌≡◌, Bool, List, [], ◌∷◌, eqb, replicate, Ok}
 use Rattle.std.proofs.Math.Path.{refl, ap}
 use Rattle.std.proofs.Common.{sym, arith}
 use Rattle.std.proofs.Math.Bool.{true, false}
@@ -13,8 +13,7 @@ use Rattle.record.specs.Answers.{taken, said_by, convert_said}
 use Rattle.record.specs.RangeLaws.{between-low}
 use Rattle.record.specs.Refusals.{number_of_refusal}
 use Rattle.record.specs.Pairs.{join_said}
-use Rattle.record.specs.declared.Recovery.{Recovery}
-use Rattle.record.specs.declared.RecoverAnswer.{RecoverAnswer}
+use Rattle.record.specs.Answered.{Recovery, RecoverAnswer}
 use Rattle.record.specs.declared.Refusal.{Refusal}
 use Rattle.record.specs.declared.Refusal.TheVariants.{NoPair}
 use Rattle.record.specs.declared.Record.{Record}
@@ -141,7 +140,7 @@ module _ (L : Layout) (n s : ℕ) (order area cells : List ℕ) (own : image_lay
   abbrev Keeps : Recovery → Type 0
   Keeps r = RecoverPromise L n s order area cells (recovered_cells L s order area cells r) r
 
-  rebuilt : recovery L n s m order area ≡ record { answer = RecoverAnswer.Recovered; rec = rec } →
+  rebuilt : recovery L n s m order area ≡ record { answer = (Ok tt); rec = rec } →
       Holds s m (log_now area rec) (built area s rec.map order m)
   rebuilt e =
       let recovers = recovery-recovered L n s m area order rec own e in

@@ -1,6 +1,6 @@
 -- Demand 3 speaks about the computed run: what recovery gives at its end, whichever order the slots are read in, and what its steps and
 -- reads answered.
-use Rattle.std.specs.Prelude.{ℕ, ◌-◌, ◌<◌, ◌≡◌, refl, true, false, List, [], ◌∷◌, ◌++◌, length, replicate}
+use Rattle.std.specs.Prelude.{ℕ, ◌-◌, ◌<◌, ◌≡◌, refl, true, false, List, [], ◌∷◌, ◌++◌, length, replicate, Ok}
 use Rattle.std.proofs.Common.{sym, ◌∙◌, ap, subst, arith}
 use Rattle.std.proofs.Math.Path.{subst⁻¹}
 use Rattle.std.proofs.Math.Option.{Option, none, some}
@@ -9,11 +9,7 @@ use Rattle.segment.proofs.Choice.{pick_true}
 use Rattle.segment.specs.Layout.{Layout, edition1, number_of_layout}
 use Rattle.segment.specs.declared.Key.{Key}
 use Rattle.record.specs.Answers.{Said, read_said, refusal, said_by, taken}
-use Rattle.record.specs.declared.FormatAnswer.{FormatAnswer}
-use Rattle.record.specs.declared.Reading.{Reading}
-use Rattle.record.specs.declared.ReadAnswer.{ReadAnswer}
-use Rattle.record.specs.declared.Recovery.{Recovery}
-use Rattle.record.specs.declared.RecoverAnswer.{RecoverAnswer}
+use Rattle.record.specs.Answered.{FormatAnswer, Reading, ReadAnswer, Recovery, RecoverAnswer, TellAnswer}
 use Rattle.record.specs.declared.Refusal.{Refusal}
 use Rattle.model.specs.Counts.{counts_of}
 use Rattle.model.specs.Operations.{log_now, write, formatted_as}
@@ -21,7 +17,6 @@ use Rattle.model.specs.Play.{opened}
 use Rattle.record.specs.Reach.{holds_table, all_tables}
 use Rattle.model.specs.Recovery.{order_bad, recovery, image_layout}
 use Rattle.model.specs.Promises.{format_answer, area_unless, FormatPromise, RecoverPromise, ReadPromise, Part, part_of, ValuePromise}
-use Rattle.record.specs.declared.TellAnswer.{TellAnswer}
 use Rattle.history.specs.Book.{reads, starts, asks, Answer, saying, telling, Event, called, cut, accepted, book_version, Book, fresh_book, version_for, feed, book_of, highest_told, version_told, scans_value, giving}
 use Rattle.history.specs.Editions.{Editions, formatted_in, editions_after, editions_behind, only-format}
 use Rattle.history.specs.Runs.{Held}
@@ -39,7 +34,7 @@ use Rattle.witness.proofs.Example.{bytes_of, nine-typed, ten-typed, all, run, cl
 use Rattle.witness.proofs.AtEnd.{Left}
 use Rattle.witness.specs.Applied.{at_last, held_counts, left-counts, rest}
 
-pub formats : FormatPromise (number_of_layout edition1) 4 256 before area₀ FormatAnswer.Formatted
+pub formats : FormatPromise (number_of_layout edition1) 4 256 before area₀ (Ok tt)
 unfolding opened number_of_layout formatted_as format_answer area_unless said_by
 formats = record { answers = refl; says = refl; leaves = refl }
 
@@ -55,7 +50,7 @@ unfolding computing
 sixteen = refl
 
 -- what the book says of the other key
-ten-answer : book_answer edition1 two ≡ ReadAnswer.Present (record { 0 = 2 }) 2
+ten-answer : book_answer edition1 two ≡ Ok (record { version = (record { 0 = 2 }); kind = 2 })
 unfolding opened book_answer
 ten-answer = refl
 
@@ -182,7 +177,7 @@ pub found_first : 1 ≡ book_version ((book_of (begins ++ (writes ++ (idles ++ c
 found_first =
     expected-found edition1 4 256 before area₀ (bytes_of 1024 0xaa (omega arith)) formats
     (begins ++ (writes ++ (idles ++ called (starts (expecting 0) (write nine twos)) (lent 256) (saying (refusal 21)) ∷ [])))
-    (foretold (telling (TellAnswer.At 33 7)) ∷ leaving 7 13 ++ (meanwhile ++ (fails ++ (others ++ (deletes ++ (cleans ++ ends)))))) (expecting 1) (record { 0 = 1 }) nine twos (lent 256)
+    (foretold (telling (Ok (record { place = 33; byte = 7 }))) ∷ leaving 7 13 ++ (meanwhile ++ (fails ++ (others ++ (deletes ++ (cleans ++ ends)))))) (expecting 1) (record { 0 = 1 }) nine twos (lent 256)
     (saying (told 20 0 0)) all.world run refl refl
 
 -- so the last step of the latter replaced nothing, and it has the key's value now at the version told

@@ -2,7 +2,7 @@
 -- a write of another key, a delete, a cleaning, recoveries, reads, reads by scan and a conversion. Entries and digests are four bytes longer than in
 -- edition 1, so every operation has that many more stores. Demand 3 speaks about it as it does about the run of edition 1.
 -- What is proved of the definitions in `specs/Second.antt`.
-use Rattle.std.specs.Prelude.{ℕ, ◌≡◌, refl, false, List, [], ◌∷◌, ◌++◌, length, get_or, replicate}
+use Rattle.std.specs.Prelude.{ℕ, ◌≡◌, refl, false, List, [], ◌∷◌, ◌++◌, length, get_or, replicate, Ok, Err}
 use Rattle.std.proofs.Common.{◌∙◌, ap, subst, arith}
 use Rattle.std.proofs.Math.Path.{subst⁻¹}
 use Rattle.std.proofs.Math.Option.{Option, none, some}
@@ -10,11 +10,7 @@ use Rattle.segment.specs.Choice.{both}
 use Rattle.segment.specs.Layout.{Layout, edition2, number_of_layout}
 use Rattle.record.specs.Answers.{said_by}
 use Rattle.record.specs.Reach.{holds_table, all_tables}
-use Rattle.record.specs.declared.FormatAnswer.{FormatAnswer}
-use Rattle.record.specs.declared.Reading.{Reading}
-use Rattle.record.specs.declared.ReadAnswer.{ReadAnswer}
-use Rattle.record.specs.declared.Recovery.{Recovery}
-use Rattle.record.specs.declared.RecoverAnswer.{RecoverAnswer}
+use Rattle.record.specs.Answered.{FormatAnswer, Reading, ReadAnswer, Recovery, RecoverAnswer}
 use Rattle.record.specs.declared.Refusal.{Refusal}
 use Rattle.model.specs.Operations.{write, delete, clean, formatted_as}
 use Rattle.model.specs.Play.{opened}
@@ -80,7 +76,7 @@ book = record { first_key = refl; second_key = refl; next-version = refl; awaits
 
 -- ---- demand 3
 
-pub formats : FormatPromise (number_of_layout edition2) 4 256 before area₂ FormatAnswer.Formatted
+pub formats : FormatPromise (number_of_layout edition2) 4 256 before area₂ (Ok tt)
 unfolding opened number_of_layout formatted_as format_answer area_unless said_by
 formats = record { answers = refl; says = refl; leaves = refl }
 
@@ -89,14 +85,14 @@ demanded = demand-3 edition2 4 256 before area₂ (bytes_of 1024 0xaa (omega ari
 
 -- What that gives a reader: recovery is accepted, the record is of edition 2, and the reads answer with its kinds.
 pub record Left (cells' : List ℕ) (r : Recovery) : Type 0 where
-  pub is-accepted : r.answer ≡ RecoverAnswer.Recovered
+  pub is-accepted : r.answer ≡ (Ok tt)
   pub second-edition : r.rec.edition ≡ edition2
   pub next-version : r.rec.next.0 ≡ 4
   pub absent :
-      (a : Reading) → ReadPromise r.rec.edition r.rec all.world.area cells' all_tables nine a → a.answer ≡ ReadAnswer.Refused Refusal.Absent
+      (a : Reading) → ReadPromise r.rec.edition r.rec all.world.area cells' all_tables nine a → a.answer ≡ Err Refusal.Absent
   pub present :
       (a : Reading) → ReadPromise r.rec.edition r.rec all.world.area cells' all_tables ten a →
-      a.answer ≡ ReadAnswer.Present (record { 0 = 2 }) 10
+      a.answer ≡ Ok (record { version = (record { 0 = 2 }); kind = 10 })
   pub value :
       (p : Part) → ValuePromise r.rec.edition r.rec all.world.area cells' all_tables ten p → part_of all.world.area p ≡ threes
 
@@ -109,7 +105,7 @@ unswitched : editions_behind (formatted_in edition2) events ≡ formatted_in edi
 unfolding editions_behind editions_after
 unswitched = refl
 
-ten-answer : book_answer edition2 two ≡ ReadAnswer.Present (record { 0 = 2 }) 10
+ten-answer : book_answer edition2 two ≡ Ok (record { version = (record { 0 = 2 }); kind = 10 })
 unfolding opened book_answer
 ten-answer = refl
 

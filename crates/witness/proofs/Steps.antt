@@ -1,6 +1,6 @@
 -- Every step can be made: what the code does for any record, area, index and work buffer, as a total function, keeps the promise.
 -- What is proved of the definitions in `specs/Steps.antt`.
-use Rattle.std.specs.Prelude.{ℕ, ◌+◌, ◌*◌, ◌-◌, ◌≡◌, Bool, ltb, length, get_or, set, replicate}
+use Rattle.std.specs.Prelude.{ℕ, ◌+◌, ◌*◌, ◌-◌, ◌≡◌, Bool, ltb, length, get_or, set, replicate, None, Some}
 use Rattle.std.proofs.Math.Path.{refl}
 use Rattle.std.proofs.Common.{◌∙◌, length-set}
 use Rattle.std.proofs.Math.Bool.{true, false}
@@ -29,8 +29,7 @@ use Rattle.index.specs.declared.Inserted.{Inserted}
 use Rattle.telling.specs.Agree.{tested_store}
 use Rattle.stepping.specs.Finish.{After, found_in, finish_entry, finish_append, finish_head, clean_map, finish_clean, finish_forget, finish_with, advanced}
 use Rattle.stepping.proofs.StepLaws.{refused-promise, bad-promise, stored-promise}
-use Rattle.telling.specs.declared.NextStore.{NextStore}
-use Rattle.telling.specs.declared.NextStore.TheVariants.{At, Bad}
+use Rattle.telling.specs.Next.{NextStore}
 use Rattle.witness.specs.Steps.{Cells, Moved, stepped_by, stepped_unless, stored_by}
 
 -- ---- the index stays as long as it was, whatever the record
@@ -127,9 +126,9 @@ module _ (L : Layout) (r : Record) (area cells work : List ℕ) where
 
   stored-made : cause ≡ none → (x : NextStore) → tested_store L (length area) work r ≡ x → Keeps (stored_by L r area cells x)
   unfolding stored_by
-  stored-made first (At p b) e =
-      stored-promise L r area cells work first p b e refl (advanced-long L r (set area p b) cells)
-  stored-made first Bad e = bad-promise L r area cells work first e
+  stored-made first (Some s) e =
+      stored-promise L r area cells work first s.place s.byte e refl (advanced-long L r (set area s.place s.byte) cells)
+  stored-made first None e = bad-promise L r area cells work first e
 
   unless-made : (c : Option Refusal) → cause ≡ c → Keeps (stepped_unless L r area cells work c)
   unfolding stepped_unless

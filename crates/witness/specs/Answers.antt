@@ -1,5 +1,5 @@
 -- Every read, conversion, start and recovery can be made: for every input there is an answer that keeps the promise, as a total function.
-use Rattle.std.specs.Prelude.{ℕ, ◌≡◌, Bool, List, [], ◌∷◌, eqb, replicate}
+use Rattle.std.specs.Prelude.{ℕ, ◌≡◌, Bool, List, [], ◌∷◌, eqb, replicate, Ok, Err}
 use Rattle.std.proofs.Math.Path.{refl, ap}
 use Rattle.std.proofs.Common.{sym, arith}
 use Rattle.std.proofs.Math.Bool.{true, false}
@@ -10,16 +10,9 @@ use Rattle.segment.specs.Layout.{Layout}
 use Rattle.segment.specs.declared.Key.{Key}
 use Rattle.record.specs.Answers.{taken, said_by, told_by, fewest_said, fewest_told}
 use Rattle.record.specs.Refusals.{number_of_refusal}
-use Rattle.record.specs.declared.ConvertAnswer.{ConvertAnswer}
-use Rattle.record.specs.declared.Fewest.{Fewest}
-use Rattle.record.specs.declared.Joined.{Joined}
-use Rattle.record.specs.declared.Reading.{Reading}
-use Rattle.record.specs.declared.ReadAnswer.{ReadAnswer}
-use Rattle.record.specs.declared.Recovery.{Recovery}
-use Rattle.record.specs.declared.RecoverAnswer.{RecoverAnswer}
+use Rattle.record.specs.Answered.{ConvertAnswer, Fewest, Joined, Reading, ReadAnswer, Recovery, RecoverAnswer, Switching}
 use Rattle.record.specs.declared.Refusal.{Refusal}
 use Rattle.record.specs.declared.Record.{Record}
-use Rattle.record.specs.declared.Switching.{Switching}
 use Rattle.model.specs.Switching.{switch_causes, switching}
 use Rattle.record.specs.declared.Tables.{Tables}
 use Rattle.model.specs.Log.{present}
@@ -100,8 +93,8 @@ started_by L t o r area cells work =
 -- ---- recovery
 
 unfoldable pub cells_by : Layout → ℕ → List ℕ → List ℕ → List ℕ → Record → RecoverAnswer → List ℕ
-cells_by L s order area cells r RecoverAnswer.Recovered = (built area s r.map order (length cells)).cells
-cells_by L s order area cells r (RecoverAnswer.Refused c) = pick (eqb (number_of_refusal c) 20) (replicate (length cells) 0) cells
+cells_by L s order area cells r (Ok u) = (built area s r.map order (length cells)).cells
+cells_by L s order area cells r (Err c) = pick (eqb (number_of_refusal c) 20) (replicate (length cells) 0) cells
 
 abbrev pub recovered_cells : Layout → ℕ → List ℕ → List ℕ → List ℕ → Recovery → List ℕ
 recovered_cells L s order area cells r = cells_by L s order area cells r.rec r.answer

@@ -6,9 +6,8 @@ use Rattle.std.proofs.Math.Option.{Option, none, some}
 use Rattle.record.specs.Answers.{recover_said, read_said, start_said, step_said, convert_said}
 use Rattle.segment.specs.declared.Key.{Key}
 use Rattle.record.specs.Pairs.{join_said}
-use Rattle.record.specs.declared.Recovery.{Recovery}
+use Rattle.record.specs.Answered.{Recovery, Switching}
 use Rattle.record.specs.Switch.{switch_said}
-use Rattle.record.specs.declared.Switching.{Switching}
 use Rattle.record.specs.declared.Tables.{Tables}
 use Rattle.model.specs.Operations.{Operation, Typed, TypedKey}
 use Rattle.model.specs.Refused.{Lengths, Terms}

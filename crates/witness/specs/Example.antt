@@ -1,7 +1,7 @@
 -- One run, computed: N 4, S 256, M 16; a write, a second write of the same key that is cut in its middle, a write of another key, a
 -- delete, a cleaning, recoveries, reads before, during and after them, and reads by scan and conversions where no record is held and while
 -- one is.
-use Rattle.std.specs.Prelude.{ℕ, zero, suc, ◌+◌, ◌<◌, ◌≡◌, refl, List, [], ◌∷◌, ◌++◌, replicate}
+use Rattle.std.specs.Prelude.{ℕ, zero, suc, ◌+◌, ◌<◌, ◌≡◌, refl, List, [], ◌∷◌, ◌++◌, replicate, Ok}
 use Rattle.std.proofs.Common.{subst, arith}
 use Rattle.std.proofs.Math.Option.{Option, none, some}
 use Rattle.word.specs.Fnv.{fnv_step, fnv_from}
@@ -29,7 +29,7 @@ use Rattle.starting.specs.Stores.{commit_stores}
 use Rattle.counting.specs.Counting.{lost_at, renewed_at}
 use Rattle.stepping.specs.Finish.{keys_after, answered_with, lost_by, found_in, finish_entry, finish_append, finish_head, up_from, finish_clean, finish_forget, one_less, finish_with, advanced}
 use Rattle.telling.specs.Agree.{entry_agrees, slot_agrees, victims_agree, agrees_with, tested_store}
-use Rattle.record.specs.declared.TellAnswer.{TellAnswer}
+use Rattle.record.specs.Answered.{TellAnswer}
 use Rattle.telling.specs.Told.{told_store, told_unless}
 use Rattle.telling.specs.Next.{commit_store, fits_slot, fits_left, slot_store, slot_next, pending_next}
 use Rattle.witness.specs.Answers.{cells_by}
@@ -159,7 +159,7 @@ abbrev pub half : List Event
 half =
     called (starts (expecting 0) (write nine twos)) (lent 256) (saying (refusal 21))
     ∷ started_on (expecting 1) (write nine twos) 20
-    ∷ foretold (telling (TellAnswer.At 33 7))
+    ∷ foretold (telling (Ok (record { place = 33; byte = 7 })))
     ∷ leaving 7 13
 
 abbrev pub meanwhile : List Event

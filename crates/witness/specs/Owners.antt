@@ -1,7 +1,7 @@
 -- Two runs, computed, that differ in media's value bytes alone. Servo uses tables up to 7, media tables from 8 on; a write of media's
 -- outside its range is turned away, and so is servo where it asks for media's key; a write of media's is cut in its middle, and a
 -- cleaning follows. What isolation asks holds of them, and they are not the same: media reads what it wrote, and the images differ.
-use Rattle.std.specs.Prelude.{ℕ, ◌<◌, ◌≡◌, refl, List, [], ◌∷◌, ◌++◌, get_or, replicate}
+use Rattle.std.specs.Prelude.{ℕ, ◌<◌, ◌≡◌, refl, List, [], ◌∷◌, ◌++◌, get_or, replicate, Ok}
 use Rattle.std.proofs.Common.{ap, subst, arith}
 use Rattle.segment.specs.declared.Key.{Key}
 use Rattle.record.specs.Answers.{refusal}
@@ -10,7 +10,7 @@ use Rattle.record.specs.declared.Tables.{Tables}
 use Rattle.model.specs.Operations.{write, clean, TypedKey}
 use Rattle.model.specs.Play.{keyed}
 use Rattle.model.specs.Refused.{Terms}
-use Rattle.record.specs.declared.TellAnswer.{TellAnswer}
+use Rattle.record.specs.Answered.{TellAnswer}
 use Rattle.history.specs.Book.{reads, reads_value, starts, asks, saying, giving, telling, Event, called, cut}
 use Rattle.isolation.specs.Owners.{Owner, servo, media}
 use Rattle.witness.specs.Commands.{Command, question}
@@ -69,7 +69,7 @@ third b = started_on (within high) (write defects (replicate 24 b)) 36 ∷ leavi
 
 -- who drives the device is told the next store of it, one of media's bytes; say that servo drives it
 abbrev pub driving : ℕ → List Event
-driving b = foretold (telling (TellAnswer.At 64 b)) ∷ []
+driving b = foretold (telling (Ok (record { place = 64; byte = b }))) ∷ []
 
 abbrev pub last : List Event
 last = cut ∷ recovered ∷ finished (clean 1) 52 0 ++ servo_reads

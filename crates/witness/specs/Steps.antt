@@ -1,5 +1,5 @@
 -- Every step can be made: what the code does for any record, area, index and work buffer, as a total function, keeps the promise.
-use Rattle.std.specs.Prelude.{ℕ, ◌+◌, ◌*◌, ◌-◌, ◌≡◌, Bool, ltb, length, get_or, set, replicate}
+use Rattle.std.specs.Prelude.{ℕ, ◌+◌, ◌*◌, ◌-◌, ◌≡◌, Bool, ltb, length, get_or, set, replicate, None, Some}
 use Rattle.std.proofs.Math.Path.{refl}
 use Rattle.std.proofs.Common.{◌∙◌, length-set}
 use Rattle.std.proofs.Math.Bool.{true, false}
@@ -15,8 +15,7 @@ use Rattle.model.specs.Promises.{lent_lengths}
 use Rattle.index.specs.Insert.{Tally, counted, over}
 use Rattle.telling.specs.Agree.{tested_store}
 use Rattle.stepping.specs.Finish.{After, refused_step, unfit, advanced}
-use Rattle.telling.specs.declared.NextStore.{NextStore}
-use Rattle.telling.specs.declared.NextStore.TheVariants.{At, Bad}
+use Rattle.telling.specs.Next.{NextStore}
 
 -- What a step leaves: the area, and what it leaves besides.
 pub record Moved : Type 0 where
@@ -24,8 +23,8 @@ pub record Moved : Type 0 where
   pub after : After
 
 unfoldable pub stored_by : Layout → Record → List ℕ → List ℕ → NextStore → Moved
-stored_by L r area cells (At p b) = record { area = set area p b; after = advanced L r (set area p b) cells }
-stored_by L r area cells Bad = record { area = area; after = unfit r cells }
+stored_by L r area cells (Some s) = record { area = set area s.place s.byte; after = advanced L r (set area s.place s.byte) cells }
+stored_by L r area cells None = record { area = area; after = unfit r cells }
 
 unfoldable pub stepped_unless : Layout → Record → List ℕ → List ℕ → List ℕ → Option Refusal → Moved
 stepped_unless L r area cells work none = stored_by L r area cells (tested_store L (length area) work r)

@@ -1,10 +1,12 @@
 -- Laws of numbers as bytes and of FNV-1a.
-use Rattle.std.specs.Prelude.{ℕ, zero, suc, ◌+◌, ◌*◌, ◌/◌, ◌%◌, ◌^◌, ◌≤◌, ◌<◌, ◌≡◌, refl, List, [], ◌∷◌, ◌++◌, length, get_or, take, drop, set}
-use Rattle.std.proofs.Common.{◌∙◌, ap, append_assoc, add-zero, zero-add, add-suc, suc-add, add_assoc, lt_of_lt_of_le, pow-suc, mod-lt, mul_assoc, mul-le-mul, div-one, add-one, arith, lit<, length-take, length-drop, drop_of_length-le, get_or-drop, drop-cons, drop-drop, take-add, take_at, drop_at, length-take-le}
+use Rattle.std.specs.Prelude.{ℕ, zero, suc, ◌+◌, ◌-◌, ◌*◌, ◌/◌, ◌%◌, ◌^◌, ◌≤◌, ◌<◌, ◌≡◌, refl, List, [], ◌∷◌, ◌++◌, length, get_or, take, drop, set}
+use Rattle.std.proofs.Common.{sym, ◌∙◌, ap, append_assoc, add-zero, zero-add, add-suc, suc-add, add_assoc, lt_of_lt_of_le, pow-suc, mod-lt, mul_assoc, mul-le-mul, div-one, add-one, arith, lit<, length-take, length-drop, drop_of_length-le, get_or-drop, drop-cons, drop-drop, take-add, take_at, drop_at, length-take-le}
 use Rattle.std.proofs.Math.Nat.{pow-succ', pow-le-pow_right, div-div-eq-div-mul}
 use Rattle.std.proofs.Math.Arith.{mod-mul}
+use Rattle.std.specs.Int.{bytes_low_first}
 use Rattle.std.specs.Int.Bits.{bit_xor}
 use Rattle.std.proofs.lemmas.List.Edits.{sets, sets-eq}
+use borrow.Rule.Slice.PartMut.{put_mid}
 use Rattle.std.proofs.Math.Seq.{take-nil, drop-nil}
 use Rattle.word.specs.Number.{Bytes, number_of, bytes_of}
 use Rattle.word.specs.Fnv.{wrapped, fnv_step, fnv_from, fnv1a, key_hash}
@@ -156,6 +158,15 @@ number-parts (suc v) w at s =
     rw (suc-add v w, number_at (v + w) at s, number_at v at s, number-parts v w (at + 1) s, pow-succ' 256 v, next, mul_assoc 256 (256 ^ v) rest)
     (omega arith)
 
+pub number-eight : (at : ℕ) (s : List ℕ)
+    → number_of (take 8 (drop at s))
+    ≡ get_or s at 0 + 256 * get_or s (at + 1) 0 + 65536 * get_or s (at + 2) 0 + 16777216 * get_or s (at + 3) 0
+    + 4294967296 * get_or s (at + 4) 0 + 1099511627776 * get_or s (at + 5) 0 + 281474976710656 * get_or s (at + 6) 0
+    + 72057594037927936 * get_or s (at + 7) 0
+number-eight at s =
+    number-parts 4 4 at s
+    ∙ rw (number-four at s, number-four (at + 4) s, add_assoc at 4 1, add_assoc at 4 2, add_assoc at 4 3) (omega arith)
+
 pub number-at-lt : (w at : ℕ) (s : List ℕ) → Bytes s → number_of (take w (drop at s)) < 256 ^ w
 number-at-lt w at s h =
     lt_of_lt_of_le (number_lt (take w (drop at s)) (bytes_take w (drop at s) (bytes_drop at s h)))
@@ -184,9 +195,32 @@ pub number-written : (w at x : ℕ) (s : List ℕ) → at + w ≤ length s → x
 number-written w at x s fits h =
     ap number_of (taken-sets s at (bytes_of w x) w (length-bytes_of w x) fits) ∙ number-bytes w x h
 
--- what the stores of the code leave
-pub sets-two : (s : List ℕ) (at x : ℕ) → set (set s at (x % 256)) (at + 1) (x / 256 % 256) ≡ sets s at (bytes_of 2 x)
-sets-two s at x = rw (bytes_of-two, add-one)
+-- ---- numbers as the library's methods write and read them
+
+bytes_from : (i w x : ℕ) → bytes_low_first i w x ≡ bytes_of w (x / 256 ^ i)
+unfolding bytes_of
+bytes_from i zero x = refl
+bytes_from zero (suc w) x = rw (bytes_from 1 w x, div-one x)
+bytes_from (suc i) (suc w) x = rw (bytes_from (suc (suc i)) w x, div-div-eq-div-mul x (256 ^ suc i) 256, ← (pow-suc 256 (suc i)))
+
+-- the library's bytes of a number are `bytes_of` it
+pub low-first : (w x : ℕ) → bytes_low_first 0 w x ≡ bytes_of w x
+low-first w x = bytes_from 0 w x ∙ rw (div-one x)
+
+-- a part of a slice that is written over
+pub sets-part : (s t : List ℕ) (at k : ℕ) → k ≡ length t → at + k ≤ length s → put_mid at k s t ≡ sets s at t
+sets-part s t at k e fits =
+    ap (λ (l : List ℕ). take at s ++ (t ++ l)) (drop-drop k at s ∙ ap (λ (m : ℕ). drop (at + m) s) e)
+    ∙ sym (append_assoc (take at s) t (drop (at + length t) s))
+    ∙ sym (sets-eq t s at (omega arith))
+
+-- the bytes of a number are written over the w bytes from an offset on
+pub number-stored : (w at x : ℕ) (s t : List ℕ) → t ≡ bytes_of w x → at + w ≤ length s → put_mid at (at + w - at) s t ≡ sets s at (bytes_of w x)
+number-stored w at x s t e fits =
+    let same : at + w - at ≡ w = omega arith in
+    rw (e, same) (sets-part s (bytes_of w x) at w (sym (length-bytes_of w x)) fits)
+
+-- ---- bytes stored one after the other
 
 pub sets-append : (s : List ℕ) (at : ℕ) (a b : List ℕ) → sets s at (a ++ b) ≡ sets (sets s at a) (at + length a) b
 sets-append s at [] b = rw (add-zero at)
@@ -228,15 +262,6 @@ pub key_hash-at : (at : ℕ) (s : List ℕ) → Bytes s → at + 6 ≤ length s
     → fnv1a (take 6 (drop at s)) ≡ key_hash (number_of (take 2 (drop at s))) (number_of (take 4 (drop (at + 2) s)))
 key_hash-at at s h fits =
     rw (bytes-at 2 at s h (omega arith), bytes-at 4 (at + 2) s h (omega arith), take-add 2 4 (drop at s), drop-drop 2 at s)
-
--- the same by two bytes at a time, for code that makes them one by one
-pub fnv_from-two : (h x : ℕ) → fnv_from h (bytes_of 2 x) ≡ fnv_step (fnv_step h (x % 256)) (x / 256 % 256)
-unfolding fnv_from
-fnv_from-two h x = rw (bytes_of-two x)
-
-pub key_hash-halves : (table key : ℕ)
-    → key_hash table key ≡ fnv_from (fnv_from (fnv_from 2166136261 (bytes_of 2 table)) (bytes_of 2 (key % 65536))) (bytes_of 2 (key / 65536))
-key_hash-halves table key = simp (bytes_of-parts 2 2 key, fnv_from-append)
 
 -- a turn of a loop over a slice, and its end
 pub fnv_from-turn : (h i : ℕ) (s : List ℕ) → i < length s → fnv_from h (drop i s) ≡ fnv_from (fnv_step h (get_or s i 0)) (drop (i + 1) s)

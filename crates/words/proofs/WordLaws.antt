@@ -1,5 +1,5 @@
 -- Laws of: Encoding and decoding are inverse.
-use Rattle.std.specs.Prelude.{ℕ, zero, suc, ◌+◌, ◌*◌, ◌/◌, ◌%◌, ◌≤◌, ◌<◌, ◌≡◌, refl, Bool, true, false, not, eqb, leb, get_or, replicate}
+use Rattle.std.specs.Prelude.{ℕ, zero, suc, ◌+◌, ◌*◌, ◌/◌, ◌%◌, ◌≤◌, ◌<◌, ◌≡◌, refl, Bool, true, false, not, eqb, leb, replicate}
 use Rattle.std.proofs.Math.Path.{sym, ap}
 use Rattle.std.proofs.Common.{◌∙◌, arith, take-append-drop, length-drop, length-append, drop-cons, length-take-le, take-add, take_at, drop-set-lt}
 use mathlib.Core.List.{List, [], ◌∷◌, ◌++◌, append-nil}
@@ -7,6 +7,7 @@ use Rattle.std.proofs.Math.Option
 use Rattle.std.proofs.Math.Option.{Option, Option-elim}
 use Rattle.std.proofs.Math.ListN.{length, set, take, drop, length-set}
 use Rattle.std.proofs.Math.Seq.{sets, length-sets}
+use Rattle.std.specs.Int.{from_bool}
 use Rattle.std.proofs.lemmas.List.Edits.{sets-eq}
 use Rattle.std.proofs.lemmas.List.{set-get_or}
 use borrow.Author.Tests.{leb-true, le-leb, lt-leb, eqb-true, eq-eqb, ne_eqb}
@@ -49,10 +50,6 @@ pub copied-counts : (w cs : List ℕ) → record_words ≤ length w → cs ≡ s
 copied-counts w cs h e =
     let l : length (counts_in w) ≡ 32 = length-take-le 32 (drop 17 w) (omega (arith, length-drop 17 w)) in
     e ∙ sets-eq (counts_in w) (replicate 32 0) 0 (omega arith) ∙ rw l (append-nil (counts_in w))
-
--- in each arm the operation is known
-pub known-pending : (w w' : List ℕ) {p q : Pending} → p ≡ q → w' ≡ sets w 12 (pending_words q) → w' ≡ sets w 12 (pending_words p)
-known-pending w w' e f = f ∙ ap (λ (x : Pending). sets w 12 (pending_words x)) (sym e)
 
 pub zeros-on : (a b : ℕ) → a ≡ 0 → eqb b 0 ≡ zeros a b
 unfolding zeros both
@@ -111,13 +108,11 @@ number_fits L = ap (λ (o : Option Layout). not (is_none o)) (numbered-layout L)
 
 -- ---- the switch and its word
 
-pub switch-on : (t : Bool) → t ≡ true → 1 ≡ switch_number t
+-- the number of a flag is the word of the switch
+pub switch-from : (t : Bool) → from_bool t ≡ switch_number t
 unfolding switch_number pick
-switch-on t e = rw e
-
-pub switch-off : (t : Bool) → t ≡ false → 0 ≡ switch_number t
-unfolding switch_number pick
-switch-off t e = rw e
+switch-from true = refl
+switch-from false = refl
 
 -- the word is had back from the switch, and the switch from its word
 switch-number : (s : ℕ) → switch_fits s ≡ true → switch_number (switch_of s) ≡ s

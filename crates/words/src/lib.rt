@@ -8,7 +8,7 @@ ghost use Rattle.segment.specs.Layout.{number_of_layout};
 ghost use Rattle.record.specs.Answers.{bare};
 ghost use Rattle.record.specs.Range.{fits_lent};
 ghost use Rattle.record.specs.RangeLaws.{numbers_good};
-ghost use Rattle.words.specs.Words.{record_words, number_words, pending_words, zeros, edition_fits, edition_of, switch_number, pending_fits, pending_of, words_of, counts_in, record_in, is_record, decoded};
+ghost use Rattle.words.specs.Words.{record_words, number_words, pending_words, zeros, edition_fits, edition_of, pending_fits, pending_of, words_of, counts_in, record_in, is_record, decoded};
 ghost use Rattle.words.specs.WordLaws.{left_fits};
 
 use record::range::{between, counts_good, lengths_own, numbers_good};
@@ -16,7 +16,7 @@ use record::{Pending, Record, blank};
 use segment::layout::digest_size;
 use segment::{DigestNumber, Edition, Version};
 
-// How many words a record takes.
+// How many words a record takes. A firmware lends a slice, which may be longer, so the calls take no array of that length.
 pub const WORDS: usize = 49;
 
 // The words of S, of M, of the edition, of the switch, and of the pending operation's tag and stores left.
@@ -36,13 +36,14 @@ pub const LEFT: usize = 16;
 pub const COUNTS: usize = 17;
 
 // Whether words are a record, and the record; the blank one where they are not.
+// No `Option`: `Demand3` and `held_by` of crate `exported` speak of `(decoded words).rec` at all words.
 #[derive(Clone, Copy)]
 pub struct Decoded {
     pub ok: bool,
     pub rec: Record,
 }
 
-// The five words of a pending operation.
+// The five words of a pending operation. The tags 0 to 4 are numbers of the C interface.
 fn put_pending(words: &mut [u32], tag: u32, slot: u32, victims: u32, bytes: u32, left: u32)
     requires { record_words ≤ length words.old }
     ensures { words.new ≡ sets words.old 12 (tag ∷ slot ∷ victims ∷ bytes ∷ left ∷ []) }
@@ -78,7 +79,7 @@ pub fn encode_pending(p: Pending, words: &mut [u32])
     }
 }
 
-// The number of an edition.
+// The number of an edition. No `From`, which would have to stand in crate `segment`, far from `edition_of` below.
 fn edition_number(edition: Edition) -> u32
     ensures { result ≡ number_of_layout edition }
 {
@@ -86,16 +87,6 @@ fn edition_number(edition: Edition) -> u32
         Edition::First => 1,
         Edition::Second => 2,
     }
-}
-
-// The word of the switch: 1 where the store is switched, else 0.
-fn switch_number(switched: bool) -> u32
-    ensures { result ≡ switch_number switched }
-{
-    if switched {
-        return 1;
-    }
-    0
 }
 
 // The numbers of a record before its pending operation, and behind them that of its edition and whether the store is switched.
@@ -118,7 +109,7 @@ fn put_numbers(rec: Record, words: &mut [u32])
     words[8] = (next.0 / 4294967296) as u32;
     words[9] = rec.keys;
     words[EDITION] = edition_number(edition);
-    words[SWITCH] = switch_number(switched);
+    words[SWITCH] = u32::from(switched);
 }
 
 // All of `from`, from a place of `to` on.
@@ -126,10 +117,8 @@ fn copy_words(to: &mut [u32], at: usize, from: &[u32])
     requires { at + length from.now ≤ length to.old }
     ensures { to.new ≡ sets to.old at from.now }
 {
-    let mut i = 0;
-    while i < from.len() {
-        to[at + i] = from[i];
-        i += 1;
+    for (i, word) in from.iter().enumerate() {
+        to[at + i] = *word;
     }
 }
 
@@ -224,14 +213,14 @@ fn counts_in(words: &[u32]) -> [u32; 32]
     counts
 }
 
-// The record that the first words say, where there are enough of them.
-fn record_in(words: &[u32]) -> Record
+// The record that the first words say, with no present bytes: for tests and calls that do not look at them, so that the 32 numbers
+// need not be carried along.
+pub fn front_in(words: &[u32]) -> Record
     requires { record_words ≤ length words.now }
-    ensures { result ≡ record_in words.now }
+    ensures { result ≡ bare (record_in words.now) }
 {
     let edition = edition_of(words[EDITION]);
     let pending = pending_of(words[12], words[13], words[14], words[15], words[16]);
-    let counts = counts_in(words);
     Record {
         slots: words[0],
         size: words[1],
@@ -244,9 +233,19 @@ fn record_in(words: &[u32]) -> Record
         map: words[6],
         next: next_of(words[7], words[8]),
         keys: words[9],
-        counts,
+        counts: [0; 32],
         pending,
     }
+}
+
+// The record that the first words say, where there are enough of them.
+fn record_in(words: &[u32]) -> Record
+    requires { record_words ≤ length words.now }
+    ensures { result ≡ record_in words.now }
+{
+    let mut rec = front_in(words);
+    rec.counts = counts_in(words);
+    rec
 }
 
 // Whether the words lent are those of a record.
@@ -271,31 +270,6 @@ pub fn decode(words: &[u32]) -> Decoded
     }
     let rec = blank();
     Decoded { ok: false, rec }
-}
-
-// The record that the first words say, with no present bytes: for tests and calls that do not look at them, so that the 32 numbers
-// need not be carried along.
-pub fn front_in(words: &[u32]) -> Record
-    requires { record_words ≤ length words.now }
-    ensures { result ≡ bare (record_in words.now) }
-{
-    let edition = edition_of(words[EDITION]);
-    let pending = pending_of(words[12], words[13], words[14], words[15], words[16]);
-    Record {
-        slots: words[0],
-        size: words[1],
-        cells: words[2],
-        edition,
-        switched: words[SWITCH] == 1,
-        head: words[3],
-        end: words[4],
-        digest: DigestNumber(words[5]),
-        map: words[6],
-        next: next_of(words[7], words[8]),
-        keys: words[9],
-        counts: [0; 32],
-        pending,
-    }
 }
 
 // Whether the stores left can be so, by the tag of the pending operation.

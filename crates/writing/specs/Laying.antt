@@ -21,7 +21,7 @@ use Rattle.slot_map.proofs.BitLaws.{bit-of-zero, within-of-le}
 use Rattle.record.specs.RangeLaws.{Lent}
 use Rattle.record.specs.Switch.{new_layout}
 use Rattle.record.specs.declared.Pending.TheVariants.{Append, NewHead}
-use Rattle.record.specs.declared.Start.{Start}
+use Rattle.record.specs.Answered.{Start}
 use Rattle.record.specs.declared.Record.{Record}
 use Rattle.model.specs.Operations.{Laid, fits_with, fits_head, new_slot, new_digest, laid_append, laid_head, laid_entry, plan_of}
 use Rattle.model.specs.Promises.{Begun}

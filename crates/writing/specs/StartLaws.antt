@@ -1,5 +1,5 @@
 -- From what the code decides and lays down to the promise of a start.
-use Rattle.std.specs.Prelude.{ℕ, ◌+◌, ◌≤◌, ◌≡◌, Bool, true, false, not, length}
+use Rattle.std.specs.Prelude.{ℕ, ◌+◌, ◌≤◌, ◌≡◌, Bool, true, false, not, length, Ok, Err}
 use Rattle.std.proofs.Math.Path.{refl, sym, ap}
 use Rattle.std.proofs.Common.{◌∙◌, arith}
 use mathlib.Core.List.{List, [], ◌∷◌, ◌++◌}
@@ -20,7 +20,7 @@ use Rattle.record.specs.Switch.{new_layout}
 use Rattle.record.specs.declared.Pending.{Pending}
 use Rattle.record.specs.declared.Refusal.{Refusal}
 use Rattle.record.specs.declared.Refusal.TheVariants.{BadRecord, NumbersSpent, NoRoom}
-use Rattle.record.specs.declared.Start.{Start}
+use Rattle.record.specs.Answered.{Start, Check}
 use Rattle.record.specs.declared.Record.{Record}
 use Rattle.record.specs.declared.Tables.{Tables}
 use Rattle.model.specs.Log.{Placed}
@@ -33,7 +33,6 @@ use Rattle.laws.specs.Passed.{WritePassed, write-passed}
 use Rattle.laws.specs.Entering.{Roomy}
 use Rattle.laws.specs.SaidLaws.{start-settled}
 use Rattle.laws.specs.Starts.{early-bad, start-early}
-use Rattle.starting.specs.declared.Check.{Check}
 use Rattle.starting.specs.Checks.{checked, idle_causes}
 use Rattle.starting.specs.CheckLaws.{skipped, checked-some, checked-none, part-refused}
 use Rattle.starting.specs.NewHead.{NumberLeft}
@@ -74,7 +73,7 @@ module _ (L : Layout) (q : Terms) (o : Operation) (r : Record) (area cells work 
 
     -- refused: nothing changes
     pub start-refused :
-        (x : Refusal) → Check.Refused x ≡ checked (first_cause tests) → (a : Start) → a ≡ refused_start r x →
+        (x : Refusal) → Err x ≡ checked (first_cause tests) → (a : Start) → a ≡ refused_start r x →
         StartPromise L q o r area cells work work a
     unfolding begun
     start-refused x e a is =
@@ -112,7 +111,7 @@ module _ (L : Layout) (q : Terms) (o : Operation) (r : Record) (area cells work 
 
     -- accepted: the operation is laid down, by the log of a genuine store
     pub start-laid :
-        Check.Passed ≡ checked (first_cause tests) → (work' : List ℕ) (a : Start) → length work' ≡ length work →
+        Ok tt ≡ checked (first_cause tests) → (work' : List ℕ) (a : Start) → length work' ≡ length work →
         (Genuine L area r cells → record { start = a; work = work' } ≡ laid_begun r (laid L r (log_now area r) o) work) →
         StartPromise L q o r area cells work work' a
     unfolding begun laid_begun
@@ -169,11 +168,11 @@ module _ (L : Layout) (q : Terms) (r : Record) (area cells work : List ℕ) (k :
       }
 
   pub write-refused :
-      (c : Refusal) → Check.Refused c ≡ writes → (a : Start) → a ≡ refused_start r c →
+      (c : Refusal) → Err c ≡ writes → (a : Start) → a ≡ refused_start r c →
       StartPromise L q (write k value) r area cells work work a
   write-refused c e a is = start-refused L q (write k value) r area cells work write_tests write-causes c e a is
 
-  module _ (passed : Check.Passed ≡ writes) where
+  module _ (passed : Ok tt ≡ writes) where
     written : WritePassed L r (lent_lengths area cells work) q k (facts_for area cells k) (length value)
     written = write-passed L r (lent_lengths area cells work) q k (facts_for area cells k) (length value) (checked-none _ passed)
 
@@ -249,12 +248,12 @@ module _ (L : Layout) (t : Tables) (r : Record) (area cells work : List ℕ) (k 
   in_parts = refl
 
   pub delete-refused :
-      (c : Refusal) → Check.Refused c ≡ presents → (a : Start) → a ≡ refused_start r c →
+      (c : Refusal) → Err c ≡ presents → (a : Start) → a ≡ refused_start r c →
       StartPromise L (reaching t) (delete k) r area cells work work a
   delete-refused c e a is =
       start-refused L (reaching t) (delete k) r area cells work delete_tests delete-causes c (part-refused front room_causes c e ∙ ap checked in_parts) a is
 
-  module _ (passed : Check.Passed ≡ presents) where
+  module _ (passed : Ok tt ≡ presents) where
     pub deleted : PresentPassed L r (lent_lengths area cells work) (facts_for area cells k)
     unfolding present_tests first_tests idle_causes
     deleted =
@@ -283,11 +282,11 @@ module _ (L : Layout) (t : Tables) (r : Record) (area cells work : List ℕ) (k 
           ∙ ap checked (sym last-causes)
 
       pub delete-spent :
-          (c : Refusal) → Check.Refused c ≡ checked (first_cause (number_tests L r s)) → (a : Start) → a ≡ refused_start r c →
+          (c : Refusal) → Err c ≡ checked (first_cause (number_tests L r s)) → (a : Start) → a ≡ refused_start r c →
           StartPromise L (reaching t) (delete k) r area cells work work a
       delete-spent c e a is = start-refused L (reaching t) (delete k) r area cells work delete_tests delete-causes c (number-last e) a is
 
-      module _ (left : Check.Passed ≡ checked (first_cause (number_tests L r s))) where
+      module _ (left : Ok tt ≡ checked (first_cause (number_tests L r s))) where
         pub delete-number : fits_with L r (entry_size L 0) ≡ false → NumberLeft r
         unfolding number_tests
         delete-number f =

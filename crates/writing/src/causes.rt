@@ -15,7 +15,6 @@ use record::reach::holds_table;
 use record::{Expected, Record, Refusal, Tables, new_edition};
 use segment::layout::{NUMBER_LIMIT, head_size, object_kind, version_limit};
 use segment::{Key, Version};
-use starting::Check;
 use starting::checks::check_idle;
 
 // 22, 3 and 5, for a record that has passed 4's test of range and lengths: what the record, the lengths and the caller's reach tell.
@@ -26,12 +25,12 @@ fn check_first(
     work: usize,
     tables: Tables,
     key: Key,
-) -> Check
+) -> Result<(), Refusal>
     requires { fits_lent rec.edition rec area index ≡ true }
     ensures { result ≡ checked (first_cause (first_tests rec.edition rec (record { area = area; index = index; work = work }) tables key)) }
 {
     if !holds_table(tables, key.table) {
-        return Check::Refused(Refusal::OutsideTables);
+        return Err(Refusal::OutsideTables);
     }
     check_idle(rec, work)
 }
@@ -58,77 +57,77 @@ pub fn no_room(rec: Record, length: usize) -> bool
 }
 
 // 10, which only a new head brings.
-pub fn check_number(rec: Record, length: usize) -> Check
+pub fn check_number(rec: Record, length: usize) -> Result<(), Refusal>
     requires { length ≤ 256 }
     ensures { result ≡ checked (first_cause (number_tests rec.edition rec length)) }
 {
     if fits_head(rec, length) {
-        return Check::Passed;
+        return Ok(());
     }
     let number = rec.digest;
     if number.0 == NUMBER_LIMIT {
-        return Check::Refused(Refusal::NumbersSpent);
+        return Err(Refusal::NumbersSpent);
     }
-    Check::Passed
+    Ok(())
 }
 
 // 12 and 10.
-fn check_room(rec: Record, length: usize) -> Check
+fn check_room(rec: Record, length: usize) -> Result<(), Refusal>
     requires { (length ≤ 256) × (rec.map < 2 ^ rec.slots) }
     ensures { result ≡ checked (first_cause (room_tests rec.edition rec length)) }
 {
     if no_room(rec, length) {
-        return Check::Refused(Refusal::NoRoom);
+        return Err(Refusal::NoRoom);
     }
     check_number(rec, length)
 }
 
 // 21: the key has another version than the one that is expected.
-fn check_version(expected: Expected, version: Version) -> Check
+fn check_version(expected: Expected, version: Version) -> Result<(), Refusal>
     ensures { result ≡ checked (first_cause (version_tests expected version.0)) }
 {
     match expected {
-        Expected::Any => Check::Passed,
+        Expected::Any => Ok(()),
         Expected::Only(only) => {
             if only.0 == version.0 {
-                return Check::Passed;
+                return Ok(());
             }
-            Check::Refused(Refusal::OtherVersion)
+            Err(Refusal::OtherVersion)
         }
     }
 }
 
 // 4, where a forbidden byte was met, and 21, by what is known of the key. A deleted key is absent: its version is 0.
-fn check_expected(expected: Expected, presence: Presence) -> Check
+fn check_expected(expected: Expected, presence: Presence) -> Result<(), Refusal>
     ensures { result ≡ checked (first_cause (expected_tests expected (facts_of presence))) }
 {
     match presence {
         Presence::Object(version) => check_version(expected, version),
         Presence::Tombstone => check_version(expected, Version(0)),
         Presence::Nothing => check_version(expected, Version(0)),
-        Presence::Forbidden => Check::Refused(Refusal::BadRecord),
+        Presence::Forbidden => Err(Refusal::BadRecord),
     }
 }
 
 // 11: whether a key that has no entry finds room in the index.
-fn check_keys(rec: Record) -> Check
+fn check_keys(rec: Record) -> Result<(), Refusal>
     requires { 1 ≤ rec.cells }
     ensures { result ≡ checked (first_cause (key_tests rec (facts_of Presence.Nothing))) }
 {
     if rec.keys == rec.cells - 1 {
-        return Check::Refused(Refusal::KeysFull);
+        return Err(Refusal::KeysFull);
     }
-    Check::Passed
+    Ok(())
 }
 
 // 11, by what is known of the key.
-fn check_key(rec: Record, presence: Presence) -> Check
+fn check_key(rec: Record, presence: Presence) -> Result<(), Refusal>
     requires { 1 ≤ rec.cells }
     ensures { result ≡ checked (first_cause (key_tests rec (facts_of presence))) }
 {
     match presence {
-        Presence::Object(_) => Check::Passed,
-        Presence::Tombstone => Check::Passed,
+        Presence::Object(_) => Ok(()),
+        Presence::Tombstone => Ok(()),
         Presence::Nothing => check_keys(rec),
         Presence::Forbidden => check_keys(rec),
     }
@@ -143,17 +142,15 @@ fn versions_spent(rec: Record) -> bool
 }
 
 // 9, 11, 12 and 10, for an entry of that length.
-fn check_entry(rec: Record, presence: Presence, length: usize) -> Check
+fn check_entry(rec: Record, presence: Presence, length: usize) -> Result<(), Refusal>
     requires { (length ≤ 256) × (rec.map < 2 ^ rec.slots) × (1 ≤ rec.cells) }
     ensures { result ≡ checked (first_cause (entry_tests rec.edition rec (facts_of presence) length)) }
 {
     if versions_spent(rec) {
-        return Check::Refused(Refusal::VersionsSpent);
+        return Err(Refusal::VersionsSpent);
     }
-    match check_key(rec, presence) {
-        Check::Refused(c) => Check::Refused(c),
-        Check::Passed => check_room(rec, length),
-    }
+    check_key(rec, presence)?;
+    check_room(rec, length)
 }
 
 // Write: 22, 3, 5, 7, 21, 9, 11, 12, 10, for a value of so many bytes and a record that has passed 4's test of range and lengths.
@@ -166,7 +163,7 @@ pub fn check_fitting(
     expected: Expected,
     key: Key,
     value: usize,
-) -> Check
+) -> Result<(), Refusal>
     requires { fits_lent rec.edition rec (length area.now) (length index.now) ≡ true }
     ensures { result ≡ checked
         (first_cause
@@ -176,19 +173,13 @@ pub fn check_fitting(
         (facts_for area.entry.now index.now key) value)) }
 {
     let edition = rec.edition;
-    match check_first(rec, area.len(), index.len(), work, tables, key) {
-        Check::Refused(c) => Check::Refused(c),
-        Check::Passed => {
-            if object_kind(edition, value) == 0 {
-                return Check::Refused(Refusal::ValueLength);
-            }
-            let presence = find(area, index, key);
-            match check_expected(expected, presence) {
-                Check::Refused(c) => Check::Refused(c),
-                Check::Passed => check_entry(rec, presence, head_size(edition) + value),
-            }
-        }
+    check_first(rec, area.len(), index.len(), work, tables, key)?;
+    if object_kind(edition, value) == 0 {
+        return Err(Refusal::ValueLength);
     }
+    let presence = find(area, index, key);
+    check_expected(expected, presence)?;
+    check_entry(rec, presence, head_size(edition) + value)
 }
 
 // Write: 4, 22, 3, 5, 7, 21, 9, 11, 12, 10, for a value of so many bytes.
@@ -201,7 +192,7 @@ pub fn check_write(
     expected: Expected,
     key: Key,
     value: usize,
-) -> Check
+) -> Result<(), Refusal>
     ensures { result ≡ checked
         (first_cause
         (write_causes rec.edition rec
@@ -210,7 +201,7 @@ pub fn check_write(
         (facts_for area.entry.now index.now key) value)) }
 {
     if !fits_lent(rec, area.len(), index.len()) {
-        return Check::Refused(Refusal::BadRecord);
+        return Err(Refusal::BadRecord);
     }
     check_fitting(rec, area, index, work, tables, expected, key, value)
 }
@@ -223,7 +214,7 @@ pub fn check_delete(
     work: usize,
     tables: Tables,
     key: Key,
-) -> Check
+) -> Result<(), Refusal>
     ensures { result ≡ checked
         (first_cause
         (present_tests rec.edition rec
@@ -231,20 +222,18 @@ pub fn check_delete(
         tables key (facts_for area.entry.now index.now key))) }
 {
     if !fits_lent(rec, area.len(), index.len()) {
-        return Check::Refused(Refusal::BadRecord);
+        return Err(Refusal::BadRecord);
     }
-    match check_first(rec, area.len(), index.len(), work, tables, key) {
-        Check::Refused(c) => Check::Refused(c),
-        Check::Passed => match find(area, index, key) {
-            Presence::Forbidden => Check::Refused(Refusal::BadRecord),
-            Presence::Nothing => Check::Refused(Refusal::Absent),
-            Presence::Tombstone => Check::Refused(Refusal::Absent),
-            Presence::Object(_) => {
-                if versions_spent(rec) {
-                    return Check::Refused(Refusal::VersionsSpent);
-                }
-                Check::Passed
+    check_first(rec, area.len(), index.len(), work, tables, key)?;
+    match find(area, index, key) {
+        Presence::Forbidden => Err(Refusal::BadRecord),
+        Presence::Nothing => Err(Refusal::Absent),
+        Presence::Tombstone => Err(Refusal::Absent),
+        Presence::Object(_) => {
+            if versions_spent(rec) {
+                return Err(Refusal::VersionsSpent);
             }
-        },
+            Ok(())
+        }
     }
 }

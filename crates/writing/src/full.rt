@@ -6,19 +6,18 @@ ghost use Rattle.writing.specs.Tests.{full_tests};
 
 use record::{Record, Refusal};
 use segment::layout::NUMBER_LIMIT;
-use starting::Check;
 
 // 12 and 10, by whether what the one victim keeps fits the new head.
-pub fn check_full(rec: Record, fits: bool) -> Check
+pub fn check_full(rec: Record, fits: bool) -> Result<(), Refusal>
     ensures { result ≡ checked (first_cause (full_tests rec (not fits))) }
 {
     let number = rec.digest;
     let spent = number.0 == NUMBER_LIMIT;
     if !fits {
-        return Check::Refused(Refusal::NoRoom);
+        return Err(Refusal::NoRoom);
     }
     if spent {
-        return Check::Refused(Refusal::NumbersSpent);
+        return Err(Refusal::NumbersSpent);
     }
-    Check::Passed
+    Ok(())
 }

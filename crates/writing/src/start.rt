@@ -8,7 +8,6 @@ use crate::lay::lay_entry;
 use record::{Expected, Record, Start, Tables};
 use segment::Key;
 use segment::layout::object_kind;
-use starting::Check;
 use starting::answer::{refused, started};
 
 // A value is to come under a key, if the key has the version that is expected.
@@ -36,8 +35,8 @@ pub fn write_expecting(
         key,
         value.len(),
     ) {
-        Check::Refused(c) => refused(rec, c),
-        Check::Passed => {
+        Err(c) => refused(rec, c),
+        Ok(()) => {
             let laying = lay_entry(rec, work, object_kind(edition, value.len()), key, value);
             let pending = laying.pending;
             started(rec, pending, laying.left)

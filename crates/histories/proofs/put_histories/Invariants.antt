@@ -1,12 +1,9 @@
 -- `histories::put_histories` meets its contract.
-use Prim.Native.Nat.{◌+◌, ◌-◌, ◌*◌, ◌^◌, ◌≤◌}
+use Prim.Native.Nat.{◌+◌, ◌*◌, ◌^◌, ◌≤◌}
 use Rattle.text.specs.Put.{Put}
 use Rattle.histories.specs.List.{lines_of}
 use Rattle.histories.specs.Numbered.{shorter}
 use Rattle.histories.proofs.put_histories.Given as goal
 
 abbrev pub invariant-loop-letters : goal.invariant-loop-letters
-invariant-loop-letters l = (l.letters ≤ l.longest + 1) × Put l.initial.out l.out l.at l.end (lines_of (shorter l.letters)) × (4 * l.end + 7 ≤ 4 * l.at + 7 * 5 ^ l.letters)
-
-abbrev pub decreases-loop-letters : goal.decreases-loop-letters
-decreases-loop-letters l = l.longest + 1 - l.letters
+invariant-loop-letters l = Put l.initial.out l.out l.at l.end (lines_of (shorter l.letters)) × (4 * l.end + 7 ≤ 4 * l.at + 7 * 5 ^ l.letters)

@@ -8,7 +8,7 @@ use Rattle.histories.proofs.put_legal.Goals as goal
 pub returns-then-not-is_legal : goal.returns-then-not-is_legal
 returns-then-not-is_legal c =
     let a = c.args in (
-      put_same (word-unlined (word a.letters a.number) (sym c.is_legal.ensures ∙ c.if-not-is_legal.true))
+      put_same (word-unlined (word a.w.letters a.w.number) (sym c.is_legal.ensures ∙ c.if-not-is_legal.true))
           (put-none a.out.now a.at),
       omega arith,
     )
@@ -16,7 +16,7 @@ returns-then-not-is_legal c =
 pub returns : goal.returns
 returns c =
     let a = c.args in (
-      put_same (word-lined (word a.letters a.number) (sym c.is_legal.ensures ∙ c.if-not-is_legal.false))
-          c.put_word.ensures.0,
-      c.put_word.ensures.1,
+      put_same (word-lined (word a.w.letters a.w.number) (sym c.is_legal.ensures ∙ c.if-not-is_legal.false))
+          c.put.ensures.0,
+      c.put.ensures.1,
     )

@@ -1,26 +1,7 @@
 -- `histories::words` meets its contract.
-use Prim.Native.Nat.{ℕ, ◌^◌}
-use mathlib.Core.Path.{◌≡◌, ap}
 use native.Mathlib.Omega.{arith}
+use Rattle.histories.specs.Numbered.{five-most}
 use Rattle.histories.proofs.words.Goals as goal
 
-pub returns-in-0 : goal.returns-in-0
-returns-in-0 c = rw c.in-0.is
-
-pub returns-in-1 : goal.returns-in-1
-returns-in-1 c = rw c.in-1.is
-
-pub returns-in-2 : goal.returns-in-2
-returns-in-2 c = rw c.in-2.is
-
-pub returns-in-3 : goal.returns-in-3
-returns-in-3 c = rw c.in-3.is
-
-pub returns-in-4 : goal.returns-in-4
-returns-in-4 c = rw c.in-4.is
-
-pub returns-in-5 : goal.returns-in-5
-returns-in-5 c = rw c.in-5.is
-
-pub returns-in_default : goal.returns-in_default
-returns-in_default c = let six : 6 ≡ c.args.letters = omega arith in ap (λ (k : ℕ). 5 ^ k) six
+pub pow-requires : goal.pow-requires
+pow-requires c = omega (arith, five-most c.args.letters c.requires)

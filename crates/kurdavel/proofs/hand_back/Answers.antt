@@ -4,10 +4,10 @@ use Rattle.kurdavel.specs.Crossing.{stores_after}
 use Rattle.kurdavel.specs.CrossingLaws.{handed}
 use Rattle.kurdavel.proofs.hand_back.Goals as goal
 
-pub returns-in-Refused : goal.returns-in-Refused
+pub returns-in-Err : goal.returns-in-Err
 unfolding stores_after
-returns-in-Refused c = handed (c.keep.ensures.kept, c.keep.ensures.long) c.in-Refused.is c.number.ensures refl
+returns-in-Err c = handed (c.keep.ensures.kept, c.keep.ensures.long) c.in-Err.is c.number.ensures refl
 
-pub returns-in-Started : goal.returns-in-Started
+pub returns-in-Ok : goal.returns-in-Ok
 unfolding stores_after
-returns-in-Started c = handed (c.keep.ensures.kept, c.keep.ensures.long) c.in-Started.is refl refl
+returns-in-Ok c = handed (c.keep.ensures.kept, c.keep.ensures.long) c.in-Ok.is refl refl

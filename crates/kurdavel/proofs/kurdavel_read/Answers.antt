@@ -45,10 +45,10 @@ pub look_at-requires : goal.look_at-requires
 look_at-requires c =
     λ i f. reached _ _ _ _ _ _ (fit (goal.at.look_at-requires c).Else-not-fits) (held (goal.at.look_at-requires c).Else-not-holds_table) i (sym c.search-found.ensures ∙ f)
 
-pub returns-in-Refused : goal.returns-in-Refused
-returns-in-Refused c =
-    read-crossed (looked (goal.at.returns-in-Refused c).After-look_at) c.told-answer.ensures c.in-Refused.is
+pub returns-in-Err : goal.returns-in-Err
+returns-in-Err c =
+    read-crossed (looked (goal.at.returns-in-Err c).After-look_at) c.told-answer.ensures c.in-Err.is
     c.number.ensures refl refl
 
-pub returns-in-Present : goal.returns-in-Present
-returns-in-Present c = read-crossed (looked (goal.at.returns-in-Present c).After-look_at) c.told-answer.ensures c.in-Present.is refl refl refl
+pub returns-in-Ok : goal.returns-in-Ok
+returns-in-Ok c = read-crossed (looked (goal.at.returns-in-Ok c).After-look_at) c.told-answer.ensures c.in-Ok.is refl refl refl

@@ -13,7 +13,7 @@ use Rattle.recovery.proofs.LookupLaws.{object-inside, reached}
 use Rattle.words.specs.Words.{decoded}
 use Rattle.kurdavel.specs.CrossingLaws.{looked-lost, looked-away, looked-found, found-small, value-crossed}
 use Rattle.kurdavel.proofs.kurdavel_read_value.Goals as goal
-use Rattle.kurdavel.proofs.kurdavel_read_value.Goals.{After-head_size-head, After-look_at, Else-not-fits, Else-not-holds_table, In-Object}
+use Rattle.kurdavel.proofs.kurdavel_read_value.Goals.{After-head_size-head, After-look_at, Else-not-fits, Else-not-holds_table, In-Ok}
 
 -- the record fits what is lent, and the caller may reach the key
 fit : (c : Else-not-fits)
@@ -36,15 +36,15 @@ looked c =
     looked-found _ _ _ _ _ ((sym c.fits.ensures ∙ c.if-not-fits.false)) ((sym c.holds_table.ensures ∙ c.if-not-holds_table.false)) c.search-found.ensures c.look_at.ensures
 
 -- the entry of an object that was found lies in the area, whose length is a record's
-inside : (c : In-Object)
-    → ObjectInside (layout_of_kind c.in-Object.kind) c.args.area.now c.in-Object.entry c.in-Object.length
-inside c = object-inside _ _ _ _ _ _ _ _ _ _ (sym ((looked-found _ _ _ _ _ ((sym c.fits.ensures ∙ c.if-not-fits.false)) ((sym c.holds_table.ensures ∙ c.if-not-holds_table.false)) c.search-found.ensures c.look_at.ensures)) ∙ c.in-Object.is)
+inside : (c : In-Ok)
+    → ObjectInside (layout_of_kind c.in-Ok.object.kind) c.args.area.now c.in-Ok.object.place c.in-Ok.object.length
+inside c = object-inside _ _ _ _ _ _ _ _ _ _ (sym ((looked-found _ _ _ _ _ ((sym c.fits.ensures ∙ c.if-not-fits.false)) ((sym c.holds_table.ensures ∙ c.if-not-holds_table.false)) c.search-found.ensures c.look_at.ensures)) ∙ c.in-Ok.is)
 
-small : (c : In-Object) → length c.args.area.now ≤ 65536
-small c = found-small _ _ _ _ _ (sym ((looked-found _ _ _ _ _ ((sym c.fits.ensures ∙ c.if-not-fits.false)) ((sym c.holds_table.ensures ∙ c.if-not-holds_table.false)) c.search-found.ensures c.look_at.ensures)) ∙ c.in-Object.is)
+small : (c : In-Ok) → length c.args.area.now ≤ 65536
+small c = found-small _ _ _ _ _ (sym ((looked-found _ _ _ _ _ ((sym c.fits.ensures ∙ c.if-not-fits.false)) ((sym c.holds_table.ensures ∙ c.if-not-holds_table.false)) c.search-found.ensures c.look_at.ensures)) ∙ c.in-Ok.is)
 
 -- the bytes before a value, by the edition that the kind tells
-head-is : (c : After-head_size-head) → c.head_size-head.result ≡ entry_size (layout_of_kind c.in-Object.kind) 0
+head-is : (c : After-head_size-head) → c.head_size-head.result ≡ entry_size (layout_of_kind c.in-Ok.object.kind) 0
 head-is c = c.head_size-head.ensures ∙ ap (λ (L : Layout). entry_size L 0) c.edition_of_kind.ensures
 
 pub returns-then-not-fits : goal.returns-then-not-fits
@@ -64,34 +64,26 @@ look_at-requires c =
     λ i f. reached _ _ _ _ _ _ (fit (goal.at.look_at-requires c).Else-not-fits) (held (goal.at.look_at-requires c).Else-not-holds_table) i (sym c.search-found.ensures ∙ f)
 
 pub overflow_add-place : goal.overflow_add-place
-overflow_add-place c = let h = inside (goal.at.overflow_add-place c).In-Object in let l = small (goal.at.overflow_add-place c).In-Object in omega (arith, head-is c)
+overflow_add-place c = let h = inside (goal.at.overflow_add-place c).In-Ok in let l = small (goal.at.overflow_add-place c).In-Ok in omega (arith, head-is (goal.at.overflow_add-place c).After-head_size-head)
 
 pub overflow_cast-place : goal.overflow_cast-place
-overflow_cast-place c = let h = inside (goal.at.overflow_cast-place c).In-Object in let l = small (goal.at.overflow_cast-place c).In-Object in omega (arith, head-is c)
+overflow_cast-place c = let h = inside (goal.at.overflow_cast-place c).In-Ok in let l = small (goal.at.overflow_cast-place c).In-Ok in omega (arith, head-is (goal.at.overflow_cast-place c).After-head_size-head)
 
 pub overflow_sub-bytes : goal.overflow_sub-bytes
-overflow_sub-bytes c = let h = inside (goal.at.overflow_sub-bytes c).In-Object in omega (arith, head-is c)
+overflow_sub-bytes c = let h = inside (goal.at.overflow_sub-bytes c).In-Ok in omega (arith, head-is (goal.at.overflow_sub-bytes c).After-head_size-head)
 
 pub overflow_cast-bytes : goal.overflow_cast-bytes
-overflow_cast-bytes c = let h = inside (goal.at.overflow_cast-bytes c).In-Object in let l = small (goal.at.overflow_cast-bytes c).In-Object in omega (arith, head-is c)
+overflow_cast-bytes c = let h = inside (goal.at.overflow_cast-bytes c).In-Ok in let l = small (goal.at.overflow_cast-bytes c).In-Ok in omega (arith, head-is (goal.at.overflow_cast-bytes c).After-head_size-head)
 
-pub returns-in-Object : goal.returns-in-Object
+pub returns-in-Ok : goal.returns-in-Ok
 unfolding told_by part_by
-returns-in-Object c =
-    let h = inside (goal.at.returns-in-Object c).In-Object in
-    let p = c.in-Object.entry in
-    let n = c.in-Object.length in
-    value-crossed (looked (goal.at.returns-in-Object c).After-look_at) c.in-Object.is refl
-    (ap (λ (m : ℕ). record { place = p + m; bytes = n - m }) (head-is c)) (omega (arith, head-is c)) (λ refused. absurd (refused refl))
+returns-in-Ok c =
+    let h = inside (goal.at.returns-in-Ok c).In-Ok in
+    let p = c.in-Ok.object.place in
+    let n = c.in-Ok.object.length in
+    value-crossed (looked (goal.at.returns-in-Ok c).After-look_at) c.in-Ok.is refl
+    (ap (λ (m : ℕ). record { place = p + m; bytes = n - m }) (head-is (goal.at.returns-in-Ok c).After-head_size-head)) (omega (arith, head-is (goal.at.returns-in-Ok c).After-head_size-head)) (λ refused. absurd (refused refl))
 
-pub returns-in-Absent : goal.returns-in-Absent
+pub returns-in-Err : goal.returns-in-Err
 unfolding told_by part_by
-returns-in-Absent c = value-crossed (looked (goal.at.returns-in-Absent c).After-look_at) c.in-Absent.is refl refl (omega arith) (λ _. (refl, refl))
-
-pub returns-in-Outside : goal.returns-in-Outside
-unfolding told_by part_by
-returns-in-Outside c = value-crossed (looked (goal.at.returns-in-Outside c).After-look_at) c.in-Outside.is refl refl (omega arith) (λ _. (refl, refl))
-
-pub returns-in-Bad : goal.returns-in-Bad
-unfolding told_by part_by
-returns-in-Bad c = value-crossed (looked (goal.at.returns-in-Bad c).After-look_at) c.in-Bad.is refl refl (omega arith) (λ _. (refl, refl))
+returns-in-Err c = value-crossed (looked (goal.at.returns-in-Err c).After-look_at) c.in-Err.is c.number.ensures refl (omega arith) (λ _. (refl, refl))

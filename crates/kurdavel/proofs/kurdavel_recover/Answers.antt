@@ -7,10 +7,10 @@ use Rattle.kurdavel.proofs.kurdavel_recover.Goals as goal
 pub returns-then-short : goal.returns-then-short
 returns-then-short c = recover-short c.if-short.true
 
-pub returns-in-Refused : goal.returns-in-Refused
+pub returns-in-Err : goal.returns-in-Err
 unfolding words_after
-returns-in-Refused c = recover-crossed c.if-short.false c.recover-found.ensures c.in-Refused.is c.number.ensures refl (λ e. never-recovered e)
+returns-in-Err c = recover-crossed c.if-short.false c.recover-found.ensures c.in-Err.is c.number.ensures refl (λ e. never-recovered e)
 
-pub returns-in-Recovered : goal.returns-in-Recovered
+pub returns-in-Ok : goal.returns-in-Ok
 unfolding words_after
-returns-in-Recovered c = recover-crossed c.if-short.false c.recover-found.ensures c.in-Recovered.is refl c.encode.ensures.put (λ e. c.encode.ensures.long)
+returns-in-Ok c = recover-crossed c.if-short.false c.recover-found.ensures c.in-Ok.is refl c.encode.ensures.put (λ e. c.encode.ensures.long)

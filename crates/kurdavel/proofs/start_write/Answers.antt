@@ -1,4 +1,5 @@
 -- `kurdavel::start_write` meets its contract.
+use Rattle.std.specs.Prelude.{Ok}
 use borrow.Author.Rules.{rules}
 use mathlib.Core.Path.{ap}
 use mathlib.Core.Bool.{not}
@@ -6,13 +7,13 @@ use Prim.Native.Nat.{◌<◌}
 use mathlib.Core.Path.{◌≡◌, sym, ◌∙◌}
 use native.Mathlib.Omega.{arith}
 use Rattle.laws.specs.OperationsKept.{edition-roomy}
-use Rattle.starting.specs.declared.Check.{Check}
+use Rattle.record.specs.Answered.{Check}
 use Rattle.writing.specs.StartLaws.{write-ready, write-number, write_known}
 use Rattle.words.specs.Words.{word}
 use Rattle.kurdavel.specs.CrossingLaws.{fits-words}
 use Rattle.kurdavel.specs.StartOn.{tests, write-bad, front-fit, write-turned, write-begun}
 use Rattle.kurdavel.proofs.start_write.Goals as goal
-use Rattle.kurdavel.proofs.start_write.Goals.{In-Passed}
+use Rattle.kurdavel.proofs.start_write.Goals.{In-Ok}
 
 pub returns-then-not-fits : goal.returns-then-not-fits
 returns-then-not-fits c =
@@ -30,32 +31,32 @@ check_fitting-requires c =
     front-fit (record { tables = a.tables; expected = a.expected }) a.words.now a.area.now a.index.now a.work.now a.key a.value.now (half) 0 c.fits.ensures (ap not c.if-not-fits.false) c.front_in-front.ensures
 
 -- the tests are passed
-passed : (e : In-Passed)
+passed : (e : In-Ok)
     → let a = e.args in
-    Check.Passed ≡ tests (record { tables = a.tables; expected = a.expected }) a.words.now a.area.now a.index.now a.work.now a.key a.value.now e.front_in-front.result
-passed e = sym e.in-Passed.is ∙ e.check_fitting.ensures
+    (Ok tt) ≡ tests (record { tables = a.tables; expected = a.expected }) a.words.now a.area.now a.index.now a.work.now a.key a.value.now e.front_in-front.result
+passed e = sym e.in-Ok.is ∙ e.check_fitting.ensures
 
 pub lay_entry-laying-requires : goal.lay_entry-laying-requires
 lay_entry-laying-requires c =
     let a = c.args in
     record {
-      entry_ready = write-ready _ (record { tables = a.tables; expected = a.expected }) c.front_in-front.result a.area.now a.index.now a.work.now a.key a.value.now (passed (goal.at.lay_entry-laying-requires c).In-Passed) (edition-roomy _);
-      number_left = write-number _ (record { tables = a.tables; expected = a.expected }) c.front_in-front.result a.area.now a.index.now a.work.now a.key a.value.now (passed (goal.at.lay_entry-laying-requires c).In-Passed);
-      kind_value = write_known _ (record { tables = a.tables; expected = a.expected }) c.front_in-front.result a.area.now a.index.now a.work.now a.key a.value.now (passed (goal.at.lay_entry-laying-requires c).In-Passed) _ c.object_kind.ensures;
+      entry_ready = write-ready _ (record { tables = a.tables; expected = a.expected }) c.front_in-front.result a.area.now a.index.now a.work.now a.key a.value.now (passed (goal.at.lay_entry-laying-requires c).In-Ok) (edition-roomy _);
+      number_left = write-number _ (record { tables = a.tables; expected = a.expected }) c.front_in-front.result a.area.now a.index.now a.work.now a.key a.value.now (passed (goal.at.lay_entry-laying-requires c).In-Ok);
+      kind_value = write_known _ (record { tables = a.tables; expected = a.expected }) c.front_in-front.result a.area.now a.index.now a.work.now a.key a.value.now (passed (goal.at.lay_entry-laying-requires c).In-Ok) _ c.object_kind.ensures;
     }
 
 pub encode_pending-requires : goal.encode_pending-requires
 encode_pending-requires c =
     fits-words _ _ _ (sym c.fits.ensures ∙ c.if-not-fits.false)
 
-pub returns-in-Refused : goal.returns-in-Refused
-returns-in-Refused c =
+pub returns-in-Err : goal.returns-in-Err
+returns-in-Err c =
     let half : word c.args.words.now 7 < 4294967296 = search rules in
     let a = c.args in
-    write-turned (record { tables = a.tables; expected = a.expected }) a.words.now a.area.now a.index.now a.work.now a.key a.value.now (half) _ c.fits.ensures (ap not c.if-not-fits.false) c.front_in-front.ensures _ (sym c.in-Refused.is ∙ c.check_fitting.ensures) c.number.ensures
+    write-turned (record { tables = a.tables; expected = a.expected }) a.words.now a.area.now a.index.now a.work.now a.key a.value.now (half) _ c.fits.ensures (ap not c.if-not-fits.false) c.front_in-front.ensures _ (sym c.in-Err.is ∙ c.check_fitting.ensures) c.number.ensures
 
-pub returns-in-Passed : goal.returns-in-Passed
-returns-in-Passed c =
+pub returns-in-Ok : goal.returns-in-Ok
+returns-in-Ok c =
     let half : word c.args.words.now 7 < 4294967296 = search rules in
     let a = c.args in
-    write-begun (record { tables = a.tables; expected = a.expected }) a.words.now a.area.now a.index.now a.work.now a.key a.value.now (half) _ c.fits.ensures (ap not c.if-not-fits.false) c.front_in-front.ensures (passed (goal.at.returns-in-Passed c).In-Passed) _ c.object_kind.ensures c.lay_entry-laying.ensures c.encode_pending.ensures
+    write-begun (record { tables = a.tables; expected = a.expected }) a.words.now a.area.now a.index.now a.work.now a.key a.value.now (half) _ c.fits.ensures (ap not c.if-not-fits.false) c.front_in-front.ensures (passed (goal.at.returns-in-Ok c).In-Ok) _ c.object_kind.ensures c.lay_entry-laying.ensures c.encode_pending.ensures

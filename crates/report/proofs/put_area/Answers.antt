@@ -9,14 +9,14 @@ use Rattle.report.proofs.put_area.Goals as goal
 pub put_listing-requires : goal.put_listing-requires
 put_listing-requires c =
     let bytes : Bytes c.args.area.now = λ i. omega (arith, c.type_inv.area i) in (
-      recovered-ready _ _ _ _ _ _ refl c.recover_area-recovery.ensures c.in-Recovered.is (bytes),
+      recovered-ready _ _ _ _ _ _ refl c.recover_area-recovery.ensures c.in-Ok.is (bytes),
       c.requires,
     )
 
-pub returns-in-Refused : goal.returns-in-Refused
-returns-in-Refused c =
+pub returns-in-Err : goal.returns-in-Err
+returns-in-Err c =
     within_more (omega arith)
-    (within_same (text-refused _ _ _ _ _ _ refl c.recover_area-recovery.ensures _ c.in-Refused.is) c.put_refused.ensures)
+    (within_same (text-refused _ _ _ _ _ _ refl c.recover_area-recovery.ensures _ c.in-Err.is) c.put_refused.ensures)
 
-pub returns-in-Recovered : goal.returns-in-Recovered
-returns-in-Recovered c = within_same (text-recovered _ _ _ _ _ _ refl c.recover_area-recovery.ensures c.in-Recovered.is) c.put_listing.ensures
+pub returns-in-Ok : goal.returns-in-Ok
+returns-in-Ok c = within_same (text-recovered _ _ _ _ _ _ refl c.recover_area-recovery.ensures c.in-Ok.is) c.put_listing.ensures

@@ -1,5 +1,4 @@
 -- `rigging::first_wrong` meets its contract.
-use Prim.Native.Nat.{◌+◌, ◌-◌, ◌≤◌}
 use mathlib.Core.Path.{◌≡◌}
 use mathlib.Core.Option.{none}
 use Rattle.histories.specs.Numbered.{shorter}
@@ -7,7 +6,4 @@ use Rattle.rig_model.specs.Verdict.{first_wrong}
 use Rattle.rigging.proofs.first_wrong.Given as goal
 
 abbrev pub invariant-loop-letters : goal.invariant-loop-letters
-invariant-loop-letters l = (l.letters ≤ l.longest + 1) × (first_wrong l.faulty (shorter l.letters) ≡ none)
-
-abbrev pub decreases-loop-letters : goal.decreases-loop-letters
-decreases-loop-letters l = l.longest + 1 - l.letters
+invariant-loop-letters l = first_wrong l.faulty (shorter l.letters) ≡ none

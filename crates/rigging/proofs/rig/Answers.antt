@@ -25,7 +25,7 @@ pub returns-then-digit-gt54 : goal.returns-then-digit-gt54
 returns-then-digit-gt54 c = (above-digits c.args.faulty c.args.input.now c.args.out.now c.if-out-lt-ROOM.false c.if-input-ne1.false c.if-digit-lt48.false c.if-digit-gt54.true, omega arith)
 
 pub put_verdict-requires : goal.put_verdict-requires
-put_verdict-requires c = (omega (arith, c.put_histories-at.ensures.1, put-length c.put_histories-at.ensures.0, c.if-out-lt-ROOM.false), c.first_wrong.ensures.1)
+put_verdict-requires c = omega (arith, c.put_histories-at.ensures.1, put-length c.put_histories-at.ensures.0, c.if-out-lt-ROOM.false)
 
 pub returns : goal.returns
-returns c = (text-put c.args.faulty c.args.input.now c.args.out.now c.if-out-lt-ROOM.false _ _ _ c.if-input-ne1.false c.if-digit-lt48.false (omega (arith, c.if-digit-gt54.false)) refl (put_same (ap (λ (v : Option Word). lines_of (histories (get_or c.args.input.now 0 0 - 48)) ++ verdict_line v) c.first_wrong.ensures.0) (put_then c.put_histories-at.ensures.0 c.put_verdict.ensures.0)), omega (arith, c.put_verdict.ensures.1, c.put_histories-at.ensures.1, c.if-out-lt-ROOM.false))
+returns c = (text-put c.args.faulty c.args.input.now c.args.out.now c.if-out-lt-ROOM.false _ _ _ c.if-input-ne1.false c.if-digit-lt48.false (omega (arith, c.if-digit-gt54.false)) refl (put_same (ap (λ (v : Option Word). lines_of (histories (get_or c.args.input.now 0 0 - 48)) ++ verdict_line v) c.first_wrong.ensures) (put_then c.put_histories-at.ensures.0 c.put_verdict.ensures.0)), omega (arith, c.put_verdict.ensures.1, c.put_histories-at.ensures.1, c.if-out-lt-ROOM.false))

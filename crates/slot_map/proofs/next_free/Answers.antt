@@ -1,11 +1,8 @@
 -- `slot_map::next_free` meets its contract: the code's map of free slots is one (`free-map`), and there is a law for each return.
 use mathlib.Core.Path.{◌≡◌}
 use Prim.Native.Nat.{ℕ, ◌+◌, ◌-◌, ◌/◌, ◌^◌, ◌≤◌, ◌<◌}
-use native.Mathlib.Omega.{arith}
 use lib.Bits.{bit_and}
-use lib.Count.{count_trailing_zeros, trailing_le}
-use mir.Syntax.{w32}
-use mir.Val.{Fits}
+use lib.Count.{count_trailing_zeros}
 use Rattle.slot_map.specs.Next.{next_free}
 use Rattle.slot_map.specs.Vacant.{above}
 use Rattle.slot_map.proofs.Vacant.{next-above, next-round, next-nothing}
@@ -14,10 +11,6 @@ use Rattle.slot_map.proofs.next_free.Goals as goal
 
 abbrev vacant : ℕ → ℕ → ℕ
 vacant n m = bit_and (0xffff_ffff - m) (0xffff_ffff / 2 ^ (32 - n))
-
--- a word has at most 32 trailing zeros
-sum_fits : (a x : ℕ) → a ≤ 32 → Fits w32 (a + count_trailing_zeros 32 x)
-sum_fits a x h = omega (arith, trailing_le 32 x)
 
 module _ {n m head : ℕ} (pre : (1 ≤ n) × (n ≤ 32) × (head < n)) (fits : m < 2 ^ 32) where
   over : (above (vacant n m) head ≡ 0 → ⊥) → head + 1 + count_trailing_zeros 32 (above (vacant n m) head) ≡ next_free n m head
@@ -28,9 +21,6 @@ module _ {n m head : ℕ} (pre : (1 ≤ n) × (n ≤ 32) × (head < n)) (fits : 
 
   round : above (vacant n m) head ≡ 0 → (vacant n m ≡ 0 → ⊥) → count_trailing_zeros 32 (vacant n m) ≡ next_free n m head
   round = next-round n m (vacant n m) head (free-map 32 n m pre.1 fits) 32 pre.1 pre.2
-
-pub overflow_add-result-then-above-ne0 : goal.overflow_add-result-then-above-ne0
-overflow_add-result-then-above-ne0 c = sum_fits _ _ (omega arith)
 
 pub returns-then-above-ne0 : goal.returns-then-above-ne0
 returns-then-above-ne0 c = over c.requires c.ranges.map.fits c.if-above-ne0.true

@@ -1,9 +1,10 @@
 -- `switching::switch` meets its contract: out of range, idle, or with an operation pending.
+use Rattle.std.specs.Prelude.{Ok}
 use mathlib.Core.Path.{◌≡◌, refl, sym, ap, ◌∙◌}
 use mathlib.Core.Bool.{true}
 use Rattle.record.specs.Range.{in_range}
 use Rattle.record.specs.declared.Record.{Record}
-use Rattle.record.specs.declared.SwitchAnswer.{SwitchAnswer}
+use Rattle.record.specs.Answered.{SwitchAnswer}
 use Rattle.model.specs.Switching.{switching}
 use Rattle.switching.specs.SwitchLaws.{bad-promise, busy-promise, taken-promise}
 use Rattle.switching.proofs.switch.Goals as goal
@@ -20,7 +21,7 @@ pub returns-in-Idle : goal.returns-in-Idle
 unfolding switching
 returns-in-Idle c =
     taken-promise _ _ _ (in-range (goal.at.returns-in-Idle c).Else-not-in_range) c.in-Idle.is
-    (ap (λ (x : Record). record { answer = SwitchAnswer.Switched; rec = x }) c.switched_on.ensures)
+    (ap (λ (x : Record). record { answer = (Ok tt); rec = x }) c.switched_on.ensures)
 
 pub returns : goal.returns
 unfolding switching

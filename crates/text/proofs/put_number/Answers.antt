@@ -8,7 +8,7 @@ use Rattle.text.proofs.put_number.Goals as goal
 
 pub put-requires : goal.put-requires
 put-requires c =
-    omega (arith, c.requires, ap length (spelled-part c.spell-spelling.ensures))
+    omega (arith, c.requires, ap length (spelled-part c.spell-from.ensures))
 
 pub returns : goal.returns
-returns c = put_same (spelled-part c.spell-spelling.ensures) c.put.ensures
+returns c = put_same (spelled-part c.spell-from.ensures) c.put.ensures

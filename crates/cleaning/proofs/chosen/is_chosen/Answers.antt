@@ -4,4 +4,4 @@ use Rattle.cleaning.proofs.chosen.is_chosen.Goals as goal
 
 pub returns : goal.returns
 unfolding is_chosen
-returns c = c.has_slot.ensures
+returns c = c.has_bit.ensures

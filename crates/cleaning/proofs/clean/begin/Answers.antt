@@ -10,28 +10,9 @@ new_digest-requires c =
     let r = c.requires.clean_ready in
     head-ready _ _ _ _ r.lent _ r.all_named r.number-left _ c.next_free-slot.ensures
 
-pub write_digest-requires : goal.write_digest-requires
-write_digest-requires c = let r = c.requires.room in omega (arith, r.fits, r.long)
-
-pub copy_kept-count-requires : goal.copy_kept-count-requires
-copy_kept-count-requires c =
-    let r = c.requires.room in
-    record {
-      chosen_fits = r.shape;
-      split_in_bounds = omega (arith, r.fits, r.long, c.digest_size.ensures);
-    }
-
-pub head_stores-left-requires : goal.head_stores-left-requires
-head_stores-left-requires c =
-    (omega (arith, c.copy_kept-count.ensures.behind, c.requires.room.fits), c.requires.clean_ready.lent.size-high)
-
 pub overflow_cast-left : goal.overflow_cast-left
 overflow_cast-left c =
     let most = head-most _ _ c.head_stores-left.ensures in
-    omega (arith, c.copy_kept-count.ensures.behind, c.requires.room.fits, c.requires.clean_ready.lent.size-high)
-
-pub overflow_cast-length : goal.overflow_cast-length
-overflow_cast-length c =
     omega (arith, c.copy_kept-count.ensures.behind, c.requires.room.fits, c.requires.clean_ready.lent.size-high)
 
 pub returns : goal.returns

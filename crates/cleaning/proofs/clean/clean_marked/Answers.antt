@@ -22,15 +22,9 @@ same c =
     ap (λ (l : List ℕ). chosen_bytes a.into a.area.now l a.split) c.measure-count.ensures.2
     ∙ chosen-kept a.area.now a.index.now a.marks.now a.split c.requires.shape.slots a.into
 
-pub measure-count-requires : goal.measure-count-requires
-measure-count-requires c = (c.requires.shape, length-replicate {A = ℕ} 256 0)
-
-pub check_kept-requires : goal.check_kept-requires
-check_kept-requires c = c.measure-count.ensures.1
-
 pub begin-requires : goal.begin-requires
 begin-requires c =
-    let a = c.args in let passed = sym c.in-Passed.is ∙ c.check_kept.ensures in
+    let a = c.args in let passed = sym c.in-Ok.is ∙ c.check_kept.ensures in
     record {
       clean_ready = ready a.into c.requires a.index.now _ c.measure-count.ensures.0 passed;
       room = room a.into c.requires a.index.now _ c.measure-count.ensures.0 passed _
@@ -39,12 +33,12 @@ begin-requires c =
           (same (goal.at.begin-requires c).After-measure-count);
     }
 
-pub returns-in-Refused : goal.returns-in-Refused
-returns-in-Refused c =
-    marked_refused _ _ _ _ _ _ c.measure-count.ensures.0 _ (sym c.in-Refused.is ∙ c.check_kept.ensures) _ c.refused.ensures
+pub returns-in-Err : goal.returns-in-Err
+returns-in-Err c =
+    marked_refused _ _ _ _ _ _ c.measure-count.ensures.0 _ (sym c.in-Err.is ∙ c.check_kept.ensures) _ c.refused.ensures
 
-pub returns-in-Passed : goal.returns-in-Passed
-returns-in-Passed c =
+pub returns-in-Ok : goal.returns-in-Ok
+returns-in-Ok c =
     let a = c.args in
-    marked-begun _ _ _ _ _ _ c.measure-count.ensures.0 (sym c.in-Passed.is ∙ c.check_kept.ensures)
-    (c.begin.ensures ∙ ap (λ (l : List ℕ). begun_with a.into a.rec a.victims a.work.now l none) (same (goal.at.returns-in-Passed c).After-measure-count))
+    marked-begun _ _ _ _ _ _ c.measure-count.ensures.0 (sym c.in-Ok.is ∙ c.check_kept.ensures)
+    (c.begin.ensures ∙ ap (λ (l : List ℕ). begun_with a.into a.rec a.victims a.work.now l none) (same (goal.at.returns-in-Ok c).After-measure-count))

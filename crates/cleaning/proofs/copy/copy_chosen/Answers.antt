@@ -9,14 +9,11 @@ use Rattle.cleaning.proofs.copy.copy_chosen.Goals as goal
 pub returns-then-not-is_chosen : goal.returns-then-not-is_chosen
 returns-then-not-is_chosen c = copied_none _ _ _ (bytes_left _ _ _ _ c.args.header _ (sym c.is_chosen.ensures ∙ c.if-not-is_chosen.true))
 
-pub move_entry-requires : goal.move_entry-requires
-move_entry-requires c =
-    let a = c.args in let is = bytes_chosen a.into a.area.now a.chosen.now a.edition a.header a.place (sym c.is_chosen.ensures ∙ c.if-not-is_chosen.false) in
-    record {
-      length_in_bounds = c.requires.length_in_bounds;
-      edition_bound = c.requires.edition_bound;
-      place_in_bounds = omega (arith, c.requires.place_in_bounds, ap length is);
-    }
+pub move_entry-requires-clause-place_in_bounds : goal.move_entry-requires-clause-place_in_bounds
+move_entry-requires-clause-place_in_bounds c =
+    let a = c.args in
+    let is = bytes_chosen a.into a.area.now a.chosen.now a.edition a.header a.place (sym c.is_chosen.ensures ∙ c.if-not-is_chosen.false) in
+    omega (arith, c.requires.place_in_bounds, ap length is)
 
 pub returns : goal.returns
 returns c =

@@ -9,14 +9,11 @@ use Rattle.cleaning.proofs.copy.copy_entry.Goals as goal
 pub returns-then-not-is_kept : goal.returns-then-not-is_kept
 returns-then-not-is_kept c = copied_none _ _ _ (entry-dropped _ _ _ _ _ c.args.header _ (sym c.is_kept.ensures ∙ c.if-not-is_kept.true))
 
-pub move_entry-requires : goal.move_entry-requires
-move_entry-requires c =
-    let a = c.args in let is = entry_kept a.into a.area.now a.cells.now a.marks.now a.edition a.header a.place (sym c.is_kept.ensures ∙ c.if-not-is_kept.false) in
-    record {
-      length_in_bounds = c.requires.length_in_bounds;
-      edition_bound = c.requires.edition_bound;
-      place_in_bounds = omega (arith, c.requires.place_in_bounds, ap length is);
-    }
+pub move_entry-requires-clause-place_in_bounds : goal.move_entry-requires-clause-place_in_bounds
+move_entry-requires-clause-place_in_bounds c =
+    let a = c.args in
+    let is = entry_kept a.into a.area.now a.cells.now a.marks.now a.edition a.header a.place (sym c.is_kept.ensures ∙ c.if-not-is_kept.false) in
+    omega (arith, c.requires.place_in_bounds, ap length is)
 
 pub returns : goal.returns
 returns c =

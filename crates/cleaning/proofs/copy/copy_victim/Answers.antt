@@ -8,15 +8,11 @@ use Rattle.segment.specs.Digest.{layout_in}
 use Rattle.segment.proofs.Copied.{copied_none, copied-as}
 use Rattle.cleaning.specs.Chosen.{chosen_slot, chosen_part}
 use Rattle.cleaning.proofs.ChosenLaws.{chosen-victim, chosen-other}
-use Rattle.cleaning.proofs.EntriesLaws.{slot-lies}
 use Rattle.cleaning.proofs.copy.copy_victim.Goals as goal
 use Rattle.cleaning.proofs.copy.copy_victim.Goals.{After-edition_of-edition, Then-same_edition}
 
 pub returns-then-not-is_named : goal.returns-then-not-is_named
 returns-then-not-is_named c = copied_none _ _ _ (chosen-other _ _ _ _ _ (sym c.is_named.ensures ∙ c.if-not-is_named.true))
-
-pub cut-requires : goal.cut-requires
-cut-requires c = slot-lies c.requires.chosen_fits.slots c.args.slot c.requires.slot_lt_slots
 
 -- what is chosen of the slot in its own edition is the victim's part
 own : (c : After-edition_of-edition)
@@ -38,24 +34,16 @@ alike c =
     (same_layout_lem e a.into (sym c.same_edition.ensures ∙ c.if-same_edition.true))
     ∙ (chosen-victim _ _ _ _ _ _ (c.edition_of-edition.ensures ∙ ap layout_in c.cut.ensures) (sym c.is_named.ensures ∙ c.if-not-is_named.false))
 
-pub copy_runs-requires : goal.copy_runs-requires
-copy_runs-requires c =
-    record {
-      chosen_fits = c.requires.chosen_fits;
-      slot_lt_slots = c.requires.slot_lt_slots;
-      slot_in_bounds = omega (arith, c.requires.slot_in_bounds, ap length (alike (goal.at.copy_runs-requires c).Then-same_edition));
-    }
+pub copy_runs-requires-clause-slot_in_bounds : goal.copy_runs-requires-clause-slot_in_bounds
+copy_runs-requires-clause-slot_in_bounds c =
+    omega (arith, c.requires.slot_in_bounds, ap length (alike (goal.at.copy_runs-requires-clause-slot_in_bounds c).Then-same_edition))
 
 pub returns-then-same_edition : goal.returns-then-same_edition
 returns-then-same_edition c = copied-as (alike (goal.at.returns-then-same_edition c).Then-same_edition) c.copy_runs.ensures
 
-pub copy_slot-requires : goal.copy_slot-requires
-copy_slot-requires c =
-    record {
-      chosen_fits = c.requires.chosen_fits;
-      slot_lt_slots = c.requires.slot_lt_slots;
-      slot_in_bounds = omega (arith, c.requires.slot_in_bounds, ap length (own (goal.at.copy_slot-requires c).After-edition_of-edition));
-    }
+pub copy_slot-requires-clause-slot_in_bounds : goal.copy_slot-requires-clause-slot_in_bounds
+copy_slot-requires-clause-slot_in_bounds c =
+    omega (arith, c.requires.slot_in_bounds, ap length (own (goal.at.copy_slot-requires-clause-slot_in_bounds c).After-edition_of-edition))
 
 pub returns : goal.returns
 returns c = copied-as (own (goal.at.returns c).After-edition_of-edition) c.copy_slot.ensures

@@ -6,14 +6,10 @@ use Rattle.cleaning.specs.Kept.{moved_bytes}
 use Rattle.cleaning.proofs.KeptLaws.{moved_same, moved_other, moved-room}
 use Rattle.cleaning.proofs.copy.move_entry.Goals as goal
 
-pub put_entry-requires : goal.put_entry-requires
-put_entry-requires c =
+pub put_entry-requires-clause-from_in_bounds : goal.put_entry-requires-clause-from_in_bounds
+put_entry-requires-clause-from_in_bounds c =
     let a = c.args in
-    record {
-      length_in_bounds = c.requires.length_in_bounds;
-      from_bound = c.requires.edition_bound;
-      from_in_bounds = moved-room a.into a.area.now a.edition a.header a.place c.requires.edition_bound c.requires.length_in_bounds a.to (length a.work.now) c.requires.place_in_bounds;
-    }
+    moved-room a.into a.area.now a.edition a.header a.place c.requires.edition_bound c.requires.length_in_bounds a.to (length a.work.now) c.requires.place_in_bounds
 
 pub returns-then-not-same_edition : goal.returns-then-not-same_edition
 returns-then-not-same_edition c =

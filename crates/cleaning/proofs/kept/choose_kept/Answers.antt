@@ -7,14 +7,10 @@ use Rattle.cleaning.proofs.ChosenLaws.{entry-chosen, entry-left}
 use Rattle.cleaning.proofs.kept.choose_kept.Goals as goal
 use Rattle.cleaning.proofs.kept.choose_kept.Goals.{After-found_kept}
 
-pub found_kept-requires : goal.found_kept-requires
-found_kept-requires c =
+pub found_kept-requires-clause-found_inside : goal.found_kept-requires-clause-found_inside
+found_kept-requires-clause-found_inside c =
     let a = c.args in
-    record {
-      marks_len = c.requires.marks_len.0;
-      place_bound = c.requires.place_bound;
-      found_inside = found_inside a.area.now _ a.marks.now a.header.key _ c.search-found.ensures;
-    }
+    found_inside a.area.now _ a.marks.now a.header.key _ c.search-found.ensures
 
 -- the answer is the test's
 told : (c : After-found_kept)

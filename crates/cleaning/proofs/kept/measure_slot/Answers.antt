@@ -1,14 +1,12 @@
 use Prim.Native.Nat.{◌+◌, ◌*◌, ◌≤◌, ◌<◌}
-use mathlib.Core.Bool.{true}
 use mathlib.Core.Path.{◌≡◌, refl, ◌∙◌, ap}
 use native.Mathlib.Omega.{arith}
 use lib.ListN.{length}
-use Rattle.segment.specs.Layout.{entry_size}
 use Rattle.segment.proofs.LayoutLaws.{width-high}
 use Rattle.cleaning.specs.Kept.{kept_test, kept_entry}
 use Rattle.cleaning.proofs.ChosenLaws.{choice-stop, choice-entry, choice-whole, length-choice}
 use Rattle.cleaning.specs.EntriesLaws.{Meets}
-use Rattle.cleaning.proofs.EntriesLaws.{meets, meets-long, stops_end, stops-damage, tombstone-length, area-short, slot-lies, slot-long, entry-lies, place_short}
+use Rattle.cleaning.proofs.EntriesLaws.{meets, meets-long, stops_end, stops-damage, tombstone-length, area-short, slot-long, entry-lies, place_short}
 use Rattle.cleaning.specs.KeptLaws.{measured-stop, measured-entry}
 use Rattle.cleaning.proofs.KeptLaws.{measured-whole, entry-short}
 use Rattle.cleaning.proofs.kept.measure_slot.Goals as goal
@@ -23,22 +21,13 @@ met : (c : In-Entry)
     → Meets c.args.edition c.cut-s.result.now c.loop-header.at c.in-Entry.header
 met c = meets _ _ _ _ c.next.ensures _ c.in-Entry.is
 
--- a tombstone has no value
-tombstone-long : (c : In-Entry) → c.in-Entry.header.tombstone ≡ true
-    → c.in-Entry.header.length ≡ entry_size c.args.edition 0
-tombstone-long c t = tombstone-length _ _ _ (met c) t
-
 place : (c : In-Entry)
     → let a = c.args in
     a.slot * a.split.size + c.loop-header.at < 65536
 place c =
     place_short c.requires.split_fits.0.slots _ c.requires.slot_lt_slots _ c.cut-s.ensures _ _ (met c).fits (met c).some_byte
 
--- the entry has a head at least, and lies within the area
-low : (c : In-Entry)
-    → entry_size c.args.edition 0 ≤ c.in-Entry.header.length
-low c = meets-long _ _ _ (met c)
-
+-- the entry lies within the area
 lies : (c : In-Entry)
     → let a = c.args in
     a.slot * a.split.size + c.loop-header.at + c.in-Entry.header.length ≤ length a.area.now
@@ -52,32 +41,25 @@ short c =
       arith,
       c.choose_kept-total.ensures.0,
       entry-short a.into a.area.now a.cells.now a.marks.now a.edition c.in-Entry.header
-          (a.slot * a.split.size + c.loop-header.at) ((meets-long _ _ _ ((meets _ _ _ _ c.next.ensures _ c.in-Entry.is)))) ((entry-lies c.requires.split_fits.0.slots _ c.requires.slot_lt_slots _ c.cut-s.ensures _ _ ((meets _ _ _ _ c.next.ensures _ c.in-Entry.is)).fits)),
+          (a.slot * a.split.size + c.loop-header.at) (meets-long _ _ _ (meets _ _ _ _ c.next.ensures _ c.in-Entry.is)) (entry-lies c.requires.split_fits.0.slots _ c.requires.slot_lt_slots _ c.cut-s.ensures _ _ (meets _ _ _ _ c.next.ensures _ c.in-Entry.is).fits),
     )
-
-pub cut-s-requires : goal.cut-s-requires
-cut-s-requires c = slot-lies c.requires.split_fits.0.slots c.args.slot c.requires.slot_lt_slots
 
 pub loop-header-init : goal.loop-header-init
 loop-header-init c =
     rw c.digest_size-at.ensures
     (measured-whole _ _ _ _ _ _ _ _ c.cut-s.ensures, omega arith, omega (arith, long (goal.at.loop-header-init c).After-cut-s, c.requires.split_fits.0.slots.size_low, width-high c.args.edition), refl, refl)
 
-pub overflow_mul-slot : goal.overflow_mul-slot
-overflow_mul-slot c = omega (arith, place (goal.at.overflow_mul-slot c).In-Entry)
+pub choose_kept-total-requires-clause-length_in_bounds : goal.choose_kept-total-requires-clause-length_in_bounds
+choose_kept-total-requires-clause-length_in_bounds c =
+    (lies (goal.at.choose_kept-total-requires-clause-length_in_bounds c).In-Entry, area-short c.requires.split_fits.0.slots)
 
-pub overflow_add-slot : goal.overflow_add-slot
-overflow_add-slot c = omega (arith, place (goal.at.overflow_add-slot c).In-Entry)
+pub choose_kept-total-requires-clause-place_bound : goal.choose_kept-total-requires-clause-place_bound
+choose_kept-total-requires-clause-place_bound c =
+    place (goal.at.choose_kept-total-requires-clause-place_bound c).In-Entry
 
-pub choose_kept-total-requires : goal.choose_kept-total-requires
-choose_kept-total-requires c =
-    let l = c.loop-header in
-    record {
-      marks_len = (c.requires.split_fits.0.marks-long, l.invariant.4 ∙ c.requires.split_fits.1);
-      length_in_bounds = (lies (goal.at.choose_kept-total-requires c).In-Entry, area-short c.requires.split_fits.0.slots);
-      place_bound = place (goal.at.choose_kept-total-requires c).In-Entry;
-      edition_bound = low (goal.at.choose_kept-total-requires c).In-Entry;
-    }
+pub choose_kept-total-requires-clause-edition_bound : goal.choose_kept-total-requires-clause-edition_bound
+choose_kept-total-requires-clause-edition_bound c =
+    meets-long _ _ _ (met (goal.at.choose_kept-total-requires-clause-edition_bound c).In-Entry)
 
 pub overflow_add-total : goal.overflow_add-total
 overflow_add-total c =
@@ -87,7 +69,7 @@ pub behind-at-requires : goal.behind-at-requires
 behind-at-requires c =
     record {
       length_bound = omega (arith, met (goal.at.behind-at-requires c).In-Entry, long (goal.at.behind-at-requires c).After-cut-s, c.requires.split_fits.0.slots.size-high);
-      length_value = tombstone-long (goal.at.behind-at-requires c).In-Entry;
+      length_value = tombstone-length _ _ _ (met (goal.at.behind-at-requires c).In-Entry);
     }
 
 pub loop-header-smaller : goal.loop-header-smaller
@@ -104,9 +86,6 @@ loop-header-preserved c =
       ap length c.choose_kept-total.ensures.1 ∙ length-choice (kept_test _ _ _) _ _ _ _ l.invariant.4,
     )
 
-pub shape_of-chosen-in-End : goal.shape_of-chosen-in-End
-shape_of-chosen-in-End c = c.loop-header.invariant.4
-
 pub returns-in-End : goal.returns-in-End
 returns-in-End c =
     let l = c.loop-header in
@@ -117,9 +96,6 @@ returns-in-End c =
       choice-stop (kept_test _ _ _) _ _ _ _ _ _ _ l.invariant.3 stop
           ∙ choice-whole (kept_test a.area.now a.cells.now a.marks.now) a.split.size _ a.area.now a.chosen.now a.slot _ c.cut-s.ensures,
     )
-
-pub shape_of-chosen-in-Damage : goal.shape_of-chosen-in-Damage
-shape_of-chosen-in-Damage c = c.loop-header.invariant.4
 
 pub returns-in-Damage : goal.returns-in-Damage
 returns-in-Damage c =

@@ -3,7 +3,6 @@ use mathlib.Core.Path.{sym, ◌∙◌, ap}
 use native.Mathlib.Omega.{arith}
 use lib.ListN.{length}
 use Rattle.segment.specs.Digest.{layout_in}
-use Rattle.cleaning.proofs.EntriesLaws.{slot-lies}
 use Rattle.cleaning.specs.Kept.{kept_test}
 use Rattle.cleaning.proofs.KeptLaws.{part-victim, part-other}
 use Rattle.cleaning.proofs.ChosenLaws.{choice-victim, choice-passed}
@@ -17,9 +16,6 @@ returns-then-not-is_named c =
       omega arith,
       choice-passed (kept_test a.area.now a.cells.now a.marks.now) _ _ _ _ other,
     )
-
-pub cut-requires : goal.cut-requires
-cut-requires c = slot-lies c.requires.split_fits.0.slots c.args.slot c.requires.slot_lt_slots
 
 pub returns : goal.returns
 returns c =

@@ -4,4 +4,4 @@ use Rattle.cleaning.proofs.marks.is_marked.Goals as goal
 
 pub returns : goal.returns
 unfolding is_marked
-returns c = c.has_slot.ensures
+returns c = c.has_bit.ensures

@@ -1,16 +1,12 @@
 -- `cleaning::noted::note_part` meets its contract.
 use mathlib.Core.Path.{sym, ◌∙◌, ap}
 use Rattle.segment.specs.Digest.{layout_in}
-use Rattle.cleaning.proofs.EntriesLaws.{slot-lies}
 use Rattle.cleaning.proofs.Walks.{walk-named, walk-other}
 use Rattle.cleaning.specs.Filter.{note_entry}
 use Rattle.cleaning.proofs.noted.note_part.Goals as goal
 
 pub returns-then-not-is_named : goal.returns-then-not-is_named
 returns-then-not-is_named c = walk-other note_entry _ _ _ _ _ (sym c.is_named.ensures ∙ c.if-not-is_named.true)
-
-pub cut-requires : goal.cut-requires
-cut-requires c = slot-lies c.requires.split_fits.slots c.args.slot c.requires.slot_lt_slots
 
 pub returns : goal.returns
 returns c =

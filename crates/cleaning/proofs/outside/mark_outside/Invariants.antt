@@ -1,5 +1,4 @@
 -- `cleaning::outside::mark_outside` meets its contract. The invariant: the marks are those of the slots so far.
-use Prim.Native.Nat.{◌-◌, ◌≤◌}
 use mathlib.Core.Path.{◌≡◌}
 use Rattle.cleaning.specs.Walks.{walk_below}
 use Rattle.cleaning.specs.Filter.{sift_entry}
@@ -7,8 +6,4 @@ use Rattle.cleaning.proofs.outside.mark_outside.Given as goal
 
 abbrev pub invariant-loop-i : goal.invariant-loop-i
 invariant-loop-i l =
-    (l.i ≤ l.split.slots)
-    × (l.marks ≡ walk_below (sift_entry l.area l.cells l.filter) l.area l.split.size l.split.outside l.initial.marks l.i)
-
-abbrev pub decreases-loop-i : goal.decreases-loop-i
-decreases-loop-i l = l.split.slots - l.i
+    l.marks ≡ walk_below (sift_entry l.area l.cells l.filter) l.area l.split.size l.split.outside l.initial.marks l.i

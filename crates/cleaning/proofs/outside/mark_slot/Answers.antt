@@ -5,7 +5,7 @@ use Rattle.cleaning.proofs.Walks.{walk-stop, walk-entry, walk-whole}
 use Rattle.cleaning.specs.Filter.{sift_entry}
 use Rattle.cleaning.proofs.FilterLaws.{length-sift}
 use Rattle.cleaning.specs.EntriesLaws.{Meets}
-use Rattle.cleaning.proofs.EntriesLaws.{meets, stops_end, stops-damage, slot-lies, slot-long}
+use Rattle.cleaning.proofs.EntriesLaws.{meets, stops_end, stops-damage, slot-long}
 use Rattle.cleaning.proofs.outside.mark_slot.Goals as goal
 use Rattle.cleaning.proofs.outside.mark_slot.Goals.{After-cut-s, In-Entry}
 
@@ -17,16 +17,6 @@ long c = slot-long c.requires.split_fits.0.slots _ c.requires.slot_lt_slots _ c.
 met : (c : In-Entry)
     → Meets c.args.edition c.cut-s.result.now c.loop-header.at c.in-Entry.header
 met c = meets _ _ _ _ c.next.ensures _ c.in-Entry.is
-
-pub cut-s-requires : goal.cut-s-requires
-cut-s-requires c = slot-lies c.requires.split_fits.0.slots c.args.slot c.requires.slot_lt_slots
-
-pub loop-header-init : goal.loop-header-init
-loop-header-init c = rw c.digest_size-at.ensures (refl, refl)
-
-pub sift_entry-requires : goal.sift_entry-requires
-sift_entry-requires c =
-    (c.requires.split_fits.1, c.loop-header.invariant.1 ∙ c.requires.split_fits.0.marks-long)
 
 pub overflow_add-at : goal.overflow_add-at
 overflow_add-at c =
@@ -42,17 +32,11 @@ loop-header-preserved c =
       ap length made ∙ length-sift _ _ _ _ _ _ c.loop-header.invariant.1,
     )
 
-pub shape_of-marks-in-End : goal.shape_of-marks-in-End
-shape_of-marks-in-End c = c.loop-header.invariant.1
-
 pub returns-in-End : goal.returns-in-End
 returns-in-End c =
     let a = c.args in
     walk-stop _ (sift_entry _ _ _) _ _ _ _ c.loop-header.invariant.0 (stops_end _ _ _ _ c.next.ensures c.in-End.is)
     ∙ walk-whole _ (sift_entry a.area.now a.cells.now a.filter.now) a.area.now a.split.size a.marks.now a.slot _ c.cut-s.ensures
-
-pub shape_of-marks-in-Damage : goal.shape_of-marks-in-Damage
-shape_of-marks-in-Damage c = c.loop-header.invariant.1
 
 pub returns-in-Damage : goal.returns-in-Damage
 returns-in-Damage c =

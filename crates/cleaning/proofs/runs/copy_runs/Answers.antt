@@ -2,12 +2,12 @@ use Prim.Native.Nat.{◌+◌, ◌*◌, ◌≤◌, ◌<◌}
 use mathlib.Core.Path.{◌≡◌, refl, sym, ◌∙◌}
 use native.Mathlib.Omega.{arith}
 use lib.ListN.{length}
-use Rattle.cleaning.specs.ChosenLaws.{chosen_from, chosen-whole, chosen-stop}
+use Rattle.cleaning.specs.ChosenLaws.{chosen_from, chosen-stop}
 use Rattle.cleaning.specs.EntriesLaws.{Meets}
-use Rattle.cleaning.proofs.EntriesLaws.{meets, stops_end, stops-damage, tombstone-length, slot-lies, slot-long, place_short, area-short}
+use Rattle.cleaning.proofs.EntriesLaws.{meets, stops_end, stops-damage, tombstone-length, slot-lies, slot-long, place_short}
 use Rattle.cleaning.specs.Runs.{Run, stretch}
-use Rattle.cleaning.proofs.RunsLaws.{run-as, run-first, run-passed, stretch-long, stretch-room, stretch-copied}
-use Rattle.segment.proofs.Copied.{copied_none, copying-start, copying-room, copying-next, copying-end}
+use Rattle.cleaning.proofs.RunsLaws.{run-as, run-first, run-passed, stretch-room, stretch-copied}
+use Rattle.segment.proofs.Copied.{copied_none, copying-room, copying-next, copying-end}
 use Rattle.cleaning.proofs.runs.copy_runs.Goals as goal
 use Rattle.cleaning.proofs.runs.copy_runs.Goals.{After-cut-s, After-run_behind-at, In-Entry}
 
@@ -52,15 +52,6 @@ room k =
     (chosen_from a.edition a.edition a.area.now a.chosen.now a.split.size a.slot k.cut-s.result.now k.run_behind-at.result)
     (the-run k).parts
 
-pub cut-s-requires : goal.cut-s-requires
-cut-s-requires c = slot-lies c.requires.chosen_fits.slots c.args.slot c.requires.slot_lt_slots
-
-pub overflow_mul-start : goal.overflow_mul-start
-overflow_mul-start c = omega (arith, slot-lies c.requires.chosen_fits.slots c.args.slot c.requires.slot_lt_slots, area-short c.requires.chosen_fits.slots)
-
-pub loop-header-init : goal.loop-header-init
-loop-header-init c = rw c.digest_size-at.ensures (copying-start _ _ _ _ (chosen-whole _ _ _ _ _ _ _ c.cut-s.ensures))
-
 pub behind-at-requires : goal.behind-at-requires
 behind-at-requires c =
     record {
@@ -71,39 +62,13 @@ behind-at-requires c =
 pub overflow_add-start : goal.overflow_add-start
 overflow_add-start c = omega (arith, place (goal.at.overflow_add-start c).In-Entry)
 
-pub is_chosen-requires : goal.is_chosen-requires
-is_chosen-requires c = c.requires.chosen_fits.chosen-long
-
-pub run_behind-at-requires : goal.run_behind-at-requires
-run_behind-at-requires c =
-    record {
-      chosen_fits = c.requires.chosen_fits;
-      slot_lt_slots = c.requires.slot_lt_slots;
-      from_le_size = omega (arith, c.behind-at.ensures, (met (goal.at.run_behind-at-requires c).In-Entry).fits, long (goal.at.run_behind-at-requires c).After-cut-s);
-    }
-
-pub overflow_add-start-then-is_chosen : goal.overflow_add-start-then-is_chosen
-overflow_add-start-then-is_chosen c = omega (arith, place (goal.at.overflow_add-start-then-is_chosen c).In-Entry)
-
-pub overflow_add-start-then-is_chosen-2 : goal.overflow_add-start-then-is_chosen-2
-overflow_add-start-then-is_chosen-2 c = omega (arith, lies (goal.at.overflow_add-start-then-is_chosen-2 c).After-run_behind-at, area-short c.requires.chosen_fits.slots)
-
-pub slice_bounds-copy_into-count : goal.slice_bounds-copy_into-count
-slice_bounds-copy_into-count c = omega (arith, (the-run (goal.at.slice_bounds-copy_into-count c).After-run_behind-at).low)
-
-pub slice_bounds-copy_into-end : goal.slice_bounds-copy_into-end
-slice_bounds-copy_into-end c = lies (goal.at.slice_bounds-copy_into-end c).After-run_behind-at
+pub run_behind-at-requires-clause-from_le_size : goal.run_behind-at-requires-clause-from_le_size
+run_behind-at-requires-clause-from_le_size c =
+    omega (arith, c.behind-at.ensures, (met (goal.at.run_behind-at-requires-clause-from_le_size c).In-Entry).fits, long (goal.at.run_behind-at-requires-clause-from_le_size c).After-cut-s)
 
 pub copy_into-requires : goal.copy_into-requires
 copy_into-requires c =
     stretch-room _ _ _ _ _ (the-run (goal.at.copy_into-requires c).After-run_behind-at).low (lies (goal.at.copy_into-requires c).After-run_behind-at) _ _ (room (goal.at.copy_into-requires c).After-run_behind-at)
-
-pub overflow_sub-to : goal.overflow_sub-to
-overflow_sub-to c = (the-run (goal.at.overflow_sub-to c).After-run_behind-at).low
-
-pub overflow_add-to : goal.overflow_add-to
-overflow_add-to c =
-    omega (arith, room (goal.at.overflow_add-to c).After-run_behind-at, stretch-long c.args.area.now c.args.split.size c.args.slot _ _ (the-run (goal.at.overflow_add-to c).After-run_behind-at).low (lies (goal.at.overflow_add-to c).After-run_behind-at), c.loop-header.invariant.long, c.well_formed.1.1.1.1.1.0.1)
 
 pub loop-header-smaller-then-is_chosen : goal.loop-header-smaller-then-is_chosen
 loop-header-smaller-then-is_chosen c =
@@ -122,14 +87,8 @@ loop-header-preserved c =
     (run-passed _ _ _ _ _ _ _ (met (goal.at.loop-header-preserved c).In-Entry) _ c.behind-at.ensures (sym c.is_chosen.ensures ∙ c.if-is_chosen.false))
     (copied_none _ _ _ refl)
 
-pub shape_of-work-in-End : goal.shape_of-work-in-End
-shape_of-work-in-End c = c.loop-header.invariant.long
-
 pub returns-in-End : goal.returns-in-End
 returns-in-End c = copying-end c.loop-header.invariant (chosen-stop _ _ _ _ _ _ _ _ (stops_end _ _ _ _ c.next.ensures c.in-End.is))
-
-pub shape_of-work-in-Damage : goal.shape_of-work-in-Damage
-shape_of-work-in-Damage c = c.loop-header.invariant.long
 
 pub returns-in-Damage : goal.returns-in-Damage
 returns-in-Damage c = copying-end c.loop-header.invariant (chosen-stop _ _ _ _ _ _ _ _ (stops-damage _ _ _ _ c.next.ensures c.in-Damage.is))

@@ -3,8 +3,8 @@ use mathlib.Core.Path.{◌≡◌, sym, ◌∙◌}
 use native.Mathlib.Omega.{arith}
 use lib.ListN.{length}
 use Rattle.cleaning.specs.EntriesLaws.{Meets}
-use Rattle.cleaning.proofs.EntriesLaws.{meets, tombstone-length, slot-lies, slot-long, place_short}
-use Rattle.cleaning.proofs.RunsLaws.{run-as, run-start, run-entry}
+use Rattle.cleaning.proofs.EntriesLaws.{meets, tombstone-length, slot-long, place_short}
+use Rattle.cleaning.proofs.RunsLaws.{run-entry}
 use Rattle.cleaning.proofs.runs.run_behind.Goals as goal
 use Rattle.cleaning.proofs.runs.run_behind.Goals.{After-cut-s, In-Entry}
 
@@ -23,24 +23,6 @@ place : (c : In-Entry)
 place c =
     place_short c.requires.chosen_fits.slots _ c.requires.slot_lt_slots _ c.cut-s.ensures _ _ (met c).fits (met c).some_byte
 
-pub cut-s-requires : goal.cut-s-requires
-cut-s-requires c = slot-lies c.requires.chosen_fits.slots c.args.slot c.requires.slot_lt_slots
-
-pub loop-header-init : goal.loop-header-init
-loop-header-init c = run-start _ _ _ _ _ _ _ (omega (arith, long c, c.requires.from_le_size))
-
-pub overflow_mul-slot : goal.overflow_mul-slot
-overflow_mul-slot c = omega (arith, place c)
-
-pub overflow_add-slot : goal.overflow_add-slot
-overflow_add-slot c = omega (arith, place c)
-
-pub is_chosen-requires : goal.is_chosen-requires
-is_chosen-requires c = c.requires.chosen_fits.chosen-long
-
-pub returns-then-not-is_chosen : goal.returns-then-not-is_chosen
-returns-then-not-is_chosen c = run-as c.cut-s.ensures c.loop-header.invariant
-
 pub behind-at-requires : goal.behind-at-requires
 behind-at-requires c =
     record {
@@ -54,9 +36,3 @@ loop-header-smaller c = omega (arith, c.behind-at.ensures, met (goal.at.loop-hea
 pub loop-header-preserved : goal.loop-header-preserved
 loop-header-preserved c =
     run-entry _ _ _ _ _ _ _ (met (goal.at.loop-header-preserved c).In-Entry) _ c.behind-at.ensures _ c.loop-header.invariant (sym c.is_chosen.ensures ∙ c.if-not-is_chosen.false)
-
-pub returns-in-End : goal.returns-in-End
-returns-in-End c = run-as c.cut-s.ensures c.loop-header.invariant
-
-pub returns-in-Damage : goal.returns-in-Damage
-returns-in-Damage c = run-as c.cut-s.ensures c.loop-header.invariant

@@ -1,14 +1,9 @@
-use mathlib.Core.Path.{refl}
 use native.Mathlib.Omega.{arith}
-use Rattle.laws.specs.Members.{clash}
 use Rattle.cleaning.specs.EntriesLaws.{Meets}
 use Rattle.cleaning.proofs.EntriesLaws.{meets, stops_end, stops-damage}
 use Rattle.cleaning.proofs.TombstonesLaws.{tombstone-none, tombstone-found, tombstone-next}
 use Rattle.cleaning.proofs.tombstones.holds_tombstone.Goals as goal
 use Rattle.cleaning.proofs.tombstones.holds_tombstone.Goals.{In-Entry}
-
-pub loop-header-init : goal.loop-header-init
-loop-header-init c = rw c.digest_size-at.ensures refl
 
 -- the entry that the turn meets
 met : (c : In-Entry)
@@ -18,12 +13,9 @@ met c = meets _ _ _ _ c.next.ensures _ c.in-Entry.is
 pub returns-then-header : goal.returns-then-header
 returns-then-header c = tombstone-found _ _ _ _ c.loop-header.invariant (met (goal.at.returns-then-header c).In-Entry) c.if-header.true
 
-pub behind-at-requires : goal.behind-at-requires
-behind-at-requires c =
-    record {
-      length_bound = omega (arith, met (goal.at.behind-at-requires c).In-Entry, c.requires);
-      length_value = λ t. absurd (clash _ t c.if-header.false);
-    }
+pub behind-at-requires-clause-length_bound : goal.behind-at-requires-clause-length_bound
+behind-at-requires-clause-length_bound c =
+    omega (arith, met (goal.at.behind-at-requires-clause-length_bound c).In-Entry, c.requires)
 
 pub loop-header-smaller : goal.loop-header-smaller
 loop-header-smaller c = omega (arith, c.behind-at.ensures, met (goal.at.loop-header-smaller c).In-Entry)

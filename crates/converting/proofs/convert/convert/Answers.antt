@@ -1,14 +1,15 @@
 -- `converting::convert::convert` meets its contract: a law for each return.
+use Rattle.std.specs.Prelude.{Ok, Err}
 use mathlib.Core.Bool.{true, false}
 use mathlib.Core.Path.{◌≡◌, sym, ◌∙◌}
+use borrow.Author.Rules.{rules}
 use lib.ListN.{length}
 use Rattle.model.specs.Log.{views_of}
 use Rattle.model.specs.Recovery.{geometry_bad}
 use Rattle.recovery.specs.Recovering.{image_of}
-use Rattle.recovery.specs.declared.Image.{Image}
 use Rattle.converting.specs.ConvertLaws.{area-shape, convert-source, convert-target, convert-refused, sound-log, sound-top, convert-sound}
 use Rattle.converting.proofs.convert.convert.Goals as goal
-use Rattle.converting.proofs.convert.convert.Goals.{Else-geometry_bad-2, In-Sound}
+use Rattle.converting.proofs.convert.convert.Goals.{Else-geometry_bad-2, In_ok-image}
 
 pub returns-then-geometry_bad : goal.returns-then-geometry_bad
 returns-then-geometry_bad c =
@@ -29,26 +30,28 @@ pub look_at-requires : goal.look_at-requires
 look_at-requires c = let a = c.args in area-shape a.n a.s a.source.now (source_fits c)
 
 -- the head that was found
-found : (c : In-Sound)
+found : (c : In_ok-image)
     → let a = c.args in
     image_of true (views_of a.source.now a.s) a.n ≡
-    Image.Sound c.in-Sound.edition c.in-Sound.slot c.in-Sound.digest c.in-Sound.highest
-found c = sym c.look_at.ensures ∙ c.in-Sound.is
+    Ok (record { edition = c.in_ok-image.image.edition; slot = c.in_ok-image.image.slot; digest = c.in_ok-image.image.digest; highest = c.in_ok-image.image.highest })
+found c = sym c.look_at.ensures ∙ c.in_ok-image.was
 
 pub convert_log-requires : goal.convert_log-requires
 convert_log-requires c =
     let a = c.args in
     record {
-      shape = (area-shape a.n a.s a.source.now (source_fits (goal.at.convert_log-requires c).Else-geometry_bad-2), sound-log a.n a.s a.source.now a.target.now (source_fits (goal.at.convert_log-requires c).Else-geometry_bad-2) (target_fits (goal.at.convert_log-requires c).Else-geometry_bad-2) _ _ _ _ (found (goal.at.convert_log-requires c).In-Sound));
-      top_value = (sound-top a.n a.s a.source.now a.target.now (source_fits (goal.at.convert_log-requires c).Else-geometry_bad-2) (target_fits (goal.at.convert_log-requires c).Else-geometry_bad-2) _ _ _ _ (found (goal.at.convert_log-requires c).In-Sound), (area-shape a.n a.s a.target.now (target_fits (goal.at.convert_log-requires c).Else-geometry_bad-2)).whole);
+      shape = (area-shape a.n a.s a.source.now (source_fits (goal.at.convert_log-requires c).Else-geometry_bad-2), sound-log a.n a.s a.source.now a.target.now (source_fits (goal.at.convert_log-requires c).Else-geometry_bad-2) (target_fits (goal.at.convert_log-requires c).Else-geometry_bad-2) _ _ _ _ (found (goal.at.convert_log-requires c).In_ok-image));
+      top_value = (sound-top a.n a.s a.source.now a.target.now (source_fits (goal.at.convert_log-requires c).Else-geometry_bad-2) (target_fits (goal.at.convert_log-requires c).Else-geometry_bad-2) _ _ _ _ (found (goal.at.convert_log-requires c).In_ok-image), (area-shape a.n a.s a.target.now (target_fits (goal.at.convert_log-requires c).Else-geometry_bad-2)).whole);
     }
 
-pub returns-in-Refused : goal.returns-in-Refused
-returns-in-Refused c =
+pub returns-in_err-image : goal.returns-in_err-image
+returns-in_err-image c =
     let a = c.args in
-    convert-refused a.n a.s a.source.now a.target.now (source_fits (goal.at.returns-in-Refused c).Else-geometry_bad-2) (target_fits (goal.at.returns-in-Refused c).Else-geometry_bad-2) _ (sym c.look_at.ensures ∙ c.in-Refused.is)
+    let e : c.from_residual.result ≡ Err c.in_err-image.field-0.0 = search rules in
+    rw e
+    (convert-refused a.n a.s a.source.now a.target.now (source_fits (goal.at.returns-in_err-image c).Else-geometry_bad-2) (target_fits (goal.at.returns-in_err-image c).Else-geometry_bad-2) _ (sym c.look_at.ensures ∙ c.in_err-image.was))
 
-pub returns-in-Sound : goal.returns-in-Sound
-returns-in-Sound c =
+pub returns : goal.returns
+returns c =
     let a = c.args in
-    convert-sound a.n a.s a.source.now a.target.now (source_fits (goal.at.returns-in-Sound c).Else-geometry_bad-2) (target_fits (goal.at.returns-in-Sound c).Else-geometry_bad-2) _ _ _ _ (found (goal.at.returns-in-Sound c).In-Sound) _ _ c.convert_log.ensures
+    convert-sound a.n a.s a.source.now a.target.now (source_fits (goal.at.returns c).Else-geometry_bad-2) (target_fits (goal.at.returns c).Else-geometry_bad-2) _ _ _ _ (found (goal.at.returns c).In_ok-image) _ _ c.convert_log.ensures

@@ -1,5 +1,4 @@
 -- `converting::convert::convert_log` meets its contract: a law for each return.
-use mathlib.Core.Path.{sym, ◌∙◌}
 use Rattle.slot_map.specs.Bit.{named}
 use Rattle.model.specs.Log.{views_of}
 use Rattle.converting.specs.ConvertLaws.{log-long, log-wide, log-put}
@@ -15,14 +14,6 @@ returns-then-too_wide c =
     let a = c.args in
     log-wide a.from (views_of a.source.now a.s) (named a.map) a.s a.n a.target.now _ c.other-to.ensures _ c.too_long.ensures
     c.if-too_long.false _ c.too_wide.ensures c.if-too_wide.true
-
-pub put_log-requires : goal.put_log-requires
-put_log-requires c =
-    record {
-      shape = c.requires.shape;
-      n_value = sym c.too_long.ensures ∙ c.if-too_long.false;
-      target_len = c.requires.top_value.1;
-    }
 
 pub returns : goal.returns
 returns c =

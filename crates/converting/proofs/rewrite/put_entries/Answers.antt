@@ -29,14 +29,8 @@ loop-header-smaller c = omega (arith, (met (goal.at.loop-header-smaller c).In-En
 pub loop-header-preserved : goal.loop-header-preserved
 loop-header-preserved c = put-turn _ _ _ _ _ c.loop-header.invariant (met (goal.at.loop-header-preserved c).In-Entry) _ _ c.put_entry-place.ensures
 
-pub shape_of-target-in-End : goal.shape_of-target-in-End
-shape_of-target-in-End c = c.loop-header.invariant.copying.long
-
 pub returns-in-End : goal.returns-in-End
 returns-in-End c = put-end _ _ _ _ _ c.loop-header.invariant (left-none c.loop-header.invariant.left _ c.next.ensures c.in-End.is)
-
-pub shape_of-target-in-Damage : goal.shape_of-target-in-Damage
-shape_of-target-in-Damage c = c.loop-header.invariant.copying.long
 
 pub returns-in-Damage : goal.returns-in-Damage
 returns-in-Damage c = absurd (left-sound c.loop-header.invariant.left _ c.next.ensures c.in-Damage.is)

@@ -9,9 +9,6 @@ use Rattle.converting.proofs.sizes.entries_size.Goals.{Else-length-eq0}
 pub loop-at-init : goal.loop-at-init
 loop-at-init c = rw c.digest_size-at.ensures (count-start _ _ _ c.requires.0, no-size-of-end _)
 
-pub size_after-length-requires : goal.size_after-length-requires
-size_after-length-requires c = c.loop-at.invariant.1
-
 pub returns-then-length-eq0 : goal.returns-then-length-eq0
 returns-then-length-eq0 c =
     let i = c.loop-at.invariant.0 in (

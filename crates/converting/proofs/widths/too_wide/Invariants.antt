@@ -1,5 +1,4 @@
 -- `converting::widths::too_wide` meets its contract. The invariant: the other edition has room for each slot passed that the map names.
-use Prim.Native.Nat.{◌-◌, ◌≤◌}
 use mathlib.Core.Path.{◌≡◌}
 use mathlib.Core.Bool.{false}
 use Rattle.model.specs.Log.{views_of}
@@ -7,8 +6,5 @@ use Rattle.slot_map.specs.Bit.{named}
 use Rattle.model.specs.Conversion.{slot_too_wide}
 use Rattle.converting.proofs.widths.too_wide.Given as goal
 
-abbrev pub invariant-loop-i : goal.invariant-loop-i
-invariant-loop-i l = (l.i ≤ l.n) × (slot_too_wide l.to (views_of l.source l.s) (named l.map) l.i ≡ false)
-
-abbrev pub decreases-loop-i : goal.decreases-loop-i
-decreases-loop-i l = l.n - l.i
+abbrev pub invariant-loop-slot : goal.invariant-loop-slot
+invariant-loop-slot l = slot_too_wide l.to (views_of l.source l.s) (named l.map) l.slot ≡ false

@@ -1,33 +1,16 @@
-use mathlib.Core.Path.{◌≡◌, refl}
-use native.Mathlib.Omega.{arith}
+use mathlib.Core.Path.{refl}
 use Rattle.model.specs.Log.{head_of}
-use Rattle.drive_log.specs.Shape.{inside, digest-inside}
+use Rattle.drive_log.specs.Shape.{digest-inside}
 use Rattle.drive_log.specs.Heads.{told, head-turn}
 use Rattle.drive_log.proofs.head.find_head.Goals as goal
 
-pub loop-i-init : goal.loop-i-init
+pub loop-slot-init : goal.loop-slot-init
 unfolding told head_of
-loop-i-init c = (omega arith, refl)
-
-pub cut-requires : goal.cut-requires
-cut-requires c = inside c.requires _ c.loop-i-test.true
+loop-slot-init c = refl
 
 pub later-best-requires : goal.later-best-requires
-later-best-requires c = digest-inside c.requires _ c.loop-i-test.true _ c.cut.ensures
+later-best-requires c = digest-inside c.requires _ c.loop-slot-test.true _ c.cut.ensures
 
-pub overflow_add-i : goal.overflow_add-i
-overflow_add-i c = omega arith
-
-pub loop-i-smaller : goal.loop-i-smaller
-loop-i-smaller c = omega arith
-
-pub loop-i-preserved : goal.loop-i-preserved
-loop-i-preserved c = (
-  omega arith,
-  head-turn c.args.area.now c.args.s _ _ c.cut.ensures _ _ c.loop-i.invariant.1 c.later-best.ensures,
-)
-
-pub returns : goal.returns
-returns c =
-    let e : c.loop-i.i ≡ c.args.n = omega arith in
-    rw (← e) c.loop-i.invariant.1
+pub loop-slot-preserved : goal.loop-slot-preserved
+loop-slot-preserved c =
+    head-turn c.args.area.now c.args.s _ _ c.cut.ensures _ _ c.loop-slot.invariant c.later-best.ensures

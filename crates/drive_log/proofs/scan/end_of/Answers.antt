@@ -1,7 +1,6 @@
 use Prim.Native.Nat.{ℕ}
 use mathlib.Core.Path.{◌∙◌, ap}
 use native.Mathlib.Omega.{arith}
-use lib.ListN.{length}
 use Rattle.segment.proofs.EntriesLaws.{next-end, next-damage}
 use Rattle.model.specs.Log.{end_of}
 use Rattle.drive_log.specs.Extents.{rest_of, rest-whole, Meets, meets, end-turn, end-here, end-damage}

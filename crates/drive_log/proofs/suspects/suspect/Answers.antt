@@ -2,12 +2,11 @@
 use Prim.Native.Nat.{◌≤◌, ◌<◌}
 use mathlib.Core.Path.{sym, ◌∙◌}
 use mathlib.Core.List.{List}
-use native.Mathlib.Omega.{arith}
 use Rattle.slot_map.specs.Bit.{named}
 use Rattle.model.specs.Log.{Placed, views_of, log_of}
 use Rattle.laws.specs.Versions.{count}
-use Rattle.drive_log.specs.Tables.{vacant, empty-sorted, empty-between}
-use Rattle.drive_log.specs.Suspects.{Suspects, suspect-kept, suspect-told, suspect-put, suspect-anew, look-shared, look-alone, w-below}
+use Rattle.drive_log.specs.Tables.{vacant}
+use Rattle.drive_log.specs.Suspects.{Suspects, suspect-put, suspect-anew, look-alone, w-below}
 use Rattle.drive_log.proofs.suspects.suspect.Goals as goal
 use Rattle.drive_log.proofs.suspects.suspect.Goals.{Start}
 
@@ -24,33 +23,14 @@ stands c = c.requires.bound
 below : (c : Start) → c.args.version.0 < vacant
 below c = w-below _ _ (held c) _ (stands c)
 
-pub returns-then-stands_at : goal.returns-then-stands_at
-returns-then-stands_at c = suspect-kept _ _ (held (goal.at.returns-then-stands_at c).Start) _ _ (λ e. sym c.stands_at.ensures ∙ c.if-stands_at.true)
-
-pub insert-requires : goal.insert-requires
-insert-requires c =
-    record {
-      sorted = (held (goal.at.insert-requires c).Start).sorted;
-      between = c.search-at.ensures;
-      version_lt_vacant = below (goal.at.insert-requires c).Start;
-      table_value = c.if-table.true;
-    }
+pub insert-requires-clause-version_lt_vacant : goal.insert-requires-clause-version_lt_vacant
+insert-requires-clause-version_lt_vacant c = below (goal.at.insert-requires-clause-version_lt_vacant c).Start
 
 pub returns-then-table : goal.returns-then-table
 returns-then-table c = suspect-put _ _ (held (goal.at.returns-then-table c).Start) _ (stands (goal.at.returns-then-table c).Start) (sym c.stands_at.ensures ∙ c.if-stands_at.false) _ c.insert.ensures
 
-pub returns-then-suspect_shared : goal.returns-then-suspect_shared
-returns-then-suspect_shared c = suspect-told _ _ (held (goal.at.returns-then-suspect_shared c).Start) _ _ _ (look-shared _ _ (held (goal.at.returns-then-suspect_shared c).Start) _ c.suspect_shared.ensures c.if-suspect_shared.true)
-
-pub insert-requires-2 : goal.insert-requires-2
-insert-requires-2 c =
-    let e = c.clear.ensures in let p = below (goal.at.insert-requires-2 c).Start in
-    record {
-      sorted = empty-sorted _ e;
-      between = empty-between _ e _ p;
-      version_lt_vacant = p;
-      table_value = e.cells 191 (omega arith);
-    }
+pub insert-requires-2-clause-version_lt_vacant : goal.insert-requires-2-clause-version_lt_vacant
+insert-requires-2-clause-version_lt_vacant c = below (goal.at.insert-requires-2-clause-version_lt_vacant c).Start
 
 pub returns : goal.returns
 returns c =

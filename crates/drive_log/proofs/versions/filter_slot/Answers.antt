@@ -1,20 +1,16 @@
 use Prim.Native.Nat.{ℕ, ◌+◌, ◌≤◌}
-use mathlib.Core.Path.{sym, ◌∙◌}
+use mathlib.Core.Path.{sym}
 use mathlib.Core.List.{List}
 use native.Mathlib.Omega.{arith}
-use lib.ListN.{length}
 use Rattle.segment.proofs.EntriesLaws.{next-end, next-damage}
 use Rattle.slot_map.specs.Bit.{named}
 use Rattle.model.specs.Log.{views_of, log_of, Placed}
 use Rattle.laws.specs.Versions.{count}
-use Rattle.drive_log.specs.Shape.{inside, own-layout, own-scan}
+use Rattle.drive_log.specs.Shape.{own-layout, own-scan}
 use Rattle.drive_log.specs.Extents.{Meets, meets}
-use Rattle.drive_log.specs.Filter.{filter-start, slot-shared, slot-filtered, filter-stands, filter-turn, filter-end, filter-damage, slot-inside-log}
+use Rattle.drive_log.specs.Filter.{filter-start, slot-filtered, filter-stands, filter-turn, filter-end, filter-damage, slot-inside-log}
 use Rattle.drive_log.proofs.versions.filter_slot.Goals as goal
 use Rattle.drive_log.proofs.versions.filter_slot.Goals.{In-Entry, Start}
-
-pub cut-part-requires : goal.cut-part-requires
-cut-part-requires c = inside c.requires.shape _ c.requires.entering.below
 
 pub loop-header-init : goal.loop-header-init
 loop-header-init c =
@@ -36,23 +32,10 @@ met : (c : In-Entry)
     → Meets c.edition_of-edition.result c.cut-part.result.now c.loop-header.at c.in-Entry.header.version.0 c.in-Entry.header.length
 met c = meets _ _ _ _ c.next.ensures _ c.in-Entry.is
 
-pub pass-requires : goal.pass-requires
-pass-requires c =
-    record {
-      shape = c.requires.shape;
-      filter_len = c.loop-header.invariant.size;
-      suspects = c.loop-header.invariant.filtered.suspects;
-      bound = filter-stands _ _ _ _ _ _ _ _ c.loop-header.invariant (within (goal.at.pass-requires c).Start) (met (goal.at.pass-requires c).In-Entry);
-    }
-
-pub shape_of-filter-then-pass : goal.shape_of-filter-then-pass
-shape_of-filter-then-pass c = c.pass.auto.filter ∙ c.loop-header.invariant.size ∙ sym c.requires.entering.size
-
-pub shape_of-table-then-pass : goal.shape_of-table-then-pass
-shape_of-table-then-pass c = c.pass.auto.table ∙ c.loop-header.invariant.filtered.suspects.sorted.size ∙ sym c.requires.entering.filtered.suspects.sorted.size
-
-pub returns-then-pass : goal.returns-then-pass
-returns-then-pass c = slot-shared _ _ (c.pass.ensures.suspecting.shared c.if-pass.true)
+pub pass-requires-clause-bound : goal.pass-requires-clause-bound
+pass-requires-clause-bound c =
+    let at = goal.at.pass-requires-clause-bound c in
+    filter-stands _ _ _ _ _ _ _ _ c.loop-header.invariant (within at.Start) (met at.In-Entry)
 
 pub overflow_add-at : goal.overflow_add-at
 overflow_add-at c = omega (arith, met (goal.at.overflow_add-at c).In-Entry)
@@ -63,20 +46,8 @@ loop-header-smaller c = omega (arith, met (goal.at.loop-header-smaller c).In-Ent
 pub loop-header-preserved : goal.loop-header-preserved
 loop-header-preserved c = filter-turn _ _ _ _ _ _ _ _ c.loop-header.invariant (within (goal.at.loop-header-preserved c).Start) (met (goal.at.loop-header-preserved c).In-Entry) _ _ _ c.pass.ensures.suspecting c.if-pass.false c.pass.ensures.now
 
-pub shape_of-filter-in-End : goal.shape_of-filter-in-End
-shape_of-filter-in-End c = c.loop-header.invariant.size ∙ sym c.requires.entering.size
-
-pub shape_of-table-in-End : goal.shape_of-table-in-End
-shape_of-table-in-End c = c.loop-header.invariant.filtered.suspects.sorted.size ∙ sym c.requires.entering.filtered.suspects.sorted.size
-
 pub returns-in-End : goal.returns-in-End
 returns-in-End c = slot-filtered _ _ (filter-end _ _ _ _ _ _ _ _ c.loop-header.invariant (next-end _ _ _ _ c.next.ensures c.in-End.is))
-
-pub shape_of-filter-in-Damage : goal.shape_of-filter-in-Damage
-shape_of-filter-in-Damage c = c.loop-header.invariant.size ∙ sym c.requires.entering.size
-
-pub shape_of-table-in-Damage : goal.shape_of-table-in-Damage
-shape_of-table-in-Damage c = c.loop-header.invariant.filtered.suspects.sorted.size ∙ sym c.requires.entering.filtered.suspects.sorted.size
 
 pub returns-in-Damage : goal.returns-in-Damage
 returns-in-Damage c = absurd (filter-damage _ _ _ _ _ _ _ _ c.loop-header.invariant (next-damage _ _ _ _ c.next.ensures c.in-Damage.is))

@@ -27,19 +27,19 @@ fits_segment-fits-requires c =
 
 pub begin-requires : goal.begin-requires
 begin-requires c =
-    let passed = sym c.in-Passed.is ∙ c.check_full.ensures in
+    let passed = sym c.in-Ok.is ∙ c.check_full.ensures in
     record {
       victim_ready = c.requires;
       number_left = full-number c.args.rec c.fits_segment-fits.result passed;
       slot_value = sym c.fits_segment-fits.ensures ∙ full-fits c.args.rec _ passed;
     }
 
-pub returns-in-Refused : goal.returns-in-Refused
-returns-in-Refused c =
-    live-refused c.requires _ _ _ (own (goal.at.returns-in-Refused c).After-edition_of-edition) c.new_edition-into.ensures
-    c.fits_segment-fits.ensures _ (sym c.in-Refused.is ∙ c.check_full.ensures) _ c.refused.ensures
+pub returns-in-Err : goal.returns-in-Err
+returns-in-Err c =
+    live-refused c.requires _ _ _ (own (goal.at.returns-in-Err c).After-edition_of-edition) c.new_edition-into.ensures
+    c.fits_segment-fits.ensures _ (sym c.in-Err.is ∙ c.check_full.ensures) _ c.refused.ensures
 
-pub returns-in-Passed : goal.returns-in-Passed
-returns-in-Passed c =
-    live-begun c.requires _ _ _ (own (goal.at.returns-in-Passed c).After-edition_of-edition) c.new_edition-into.ensures
-    c.fits_segment-fits.ensures (sym c.in-Passed.is ∙ c.check_full.ensures) c.begin.ensures
+pub returns-in-Ok : goal.returns-in-Ok
+returns-in-Ok c =
+    live-begun c.requires _ _ _ (own (goal.at.returns-in-Ok c).After-edition_of-edition) c.new_edition-into.ensures
+    c.fits_segment-fits.ensures (sym c.in-Ok.is ∙ c.check_full.ensures) c.begin.ensures

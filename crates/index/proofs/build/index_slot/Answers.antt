@@ -1,3 +1,4 @@
+use Rattle.std.specs.Prelude.{None}
 use Prim.Native.Nat.{◌+◌, ◌≤◌, ◌<◌}
 use mathlib.Core.Path.{◌≡◌, refl, ◌∙◌}
 use native.Mathlib.Omega.{arith}
@@ -36,13 +37,12 @@ index_entry-requires c =
     let f = fits (goal.at.index_entry-requires c).In-Entry in
     (omega arith, c.loop-header.invariant.1)
 
-pub shape_of-cells-in_default : goal.shape_of-cells-in_default
-shape_of-cells-in_default c = long (goal.at.shape_of-cells-in_default c).After-index_entry
-
-pub returns-in_default : goal.returns-in_default
-returns-in_default c =
-    slot-over _ _ _ _ _ _ _ _ c.loop-header.invariant.2 _ c.cut-s.ensures _ c.next.ensures _ c.in-Entry.is _ _
-    c.index_entry.ensures c.in_default.is
+pub returns-in_err-keys-in-Entry : goal.returns-in_err-keys-in-Entry
+returns-in_err-keys-in-Entry c =
+    let e : c.from_residual.result ≡ None = search rules in
+    rw e
+    (slot-over _ _ _ _ _ _ _ _ c.loop-header.invariant.2 _ c.cut-s.ensures _ c.next.ensures _ c.in-Entry.is _ _
+    c.index_entry.ensures c.in_err-keys-in-Entry.was)
 
 -- a segment is shorter than the bound of the way to the next entry, and a tombstone has no value
 pub behind-at-requires : goal.behind-at-requires
@@ -59,9 +59,9 @@ pub loop-header-preserved : goal.loop-header-preserved
 loop-header-preserved c = (
   long (goal.at.loop-header-preserved c).After-index_entry,
   slot-few _ _ _ _ _ _ _ _ c.loop-header.invariant.2 _ c.cut-s.ensures _ c.next.ensures _ c.in-Entry.is _ _ c.index_entry.ensures _
-      c.in-Keys.is c.loop-header.invariant.1,
+      c.in_ok-keys-in-Entry.was c.loop-header.invariant.1,
   slot_next _ _ _ _ _ _ _ _ c.loop-header.invariant.2 _ c.cut-s.ensures _ c.next.ensures _ c.in-Entry.is _ _ c.index_entry.ensures _
-      c.in-Keys.is _ c.behind-at.ensures,
+      c.in_ok-keys-in-Entry.was _ c.behind-at.ensures,
 )
 
 pub shape_of-cells-in-End : goal.shape_of-cells-in-End

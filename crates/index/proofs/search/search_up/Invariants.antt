@@ -7,7 +7,4 @@ use Rattle.index.proofs.search.search_up.Given as goal
 
 abbrev pub invariant-loop-at : goal.invariant-loop-at
 invariant-loop-at l =
-    (l.at ≤ l.end) × (l.end ≤ length l.cells) × (probe (cell_has l.area l.key) l.cells (l.end - l.at) l.at ≡ probe (cell_has l.area l.key) l.cells (l.end - l.from) l.from)
-
-abbrev pub decreases-loop-at : goal.decreases-loop-at
-decreases-loop-at l = l.end - l.at
+    (l.end ≤ length l.cells) × (probe (cell_has l.area l.key) l.cells (l.end - l.at) l.at ≡ probe (cell_has l.area l.key) l.cells (l.end - l.from) l.from)

@@ -5,19 +5,19 @@ use Rattle.joining.specs.JoinLaws.{fits-notes, join-refused, join-pair, join-non
 use Rattle.joining.proofs.join.join.Goals as goal
 
 pub choose-requires : goal.choose-requires
-choose-requires c = fits-notes _ _ _ _ (sym c.in-Passed.is ∙ c.check.ensures) _ c.split_of.ensures
+choose-requires c = fits-notes _ _ _ _ (sym c.in-Ok.is ∙ c.check.ensures) _ c.split_of.ensures
 
 pub overflow_cast-result : goal.overflow_cast-result
-overflow_cast-result c = omega (arith, pair-below _ _ _ _ (sym c.in-Passed.is ∙ c.check.ensures) _ c.new_edition-into.ensures _ c.split_of.ensures _ c.choose.ensures _ _ c.in-Pair.is)
+overflow_cast-result c = omega (arith, pair-below _ _ _ _ (sym c.in-Ok.is ∙ c.check.ensures) _ c.new_edition-into.ensures _ c.split_of.ensures _ c.choose.ensures _ _ c.in-Some.is)
 
-pub overflow_cast-result-in-Pair : goal.overflow_cast-result-in-Pair
-overflow_cast-result-in-Pair c = omega (arith, pair-below _ _ _ _ (sym c.in-Passed.is ∙ c.check.ensures) _ c.new_edition-into.ensures _ c.split_of.ensures _ c.choose.ensures _ _ c.in-Pair.is)
+pub overflow_cast-result-in-Some : goal.overflow_cast-result-in-Some
+overflow_cast-result-in-Some c = omega (arith, pair-below _ _ _ _ (sym c.in-Ok.is ∙ c.check.ensures) _ c.new_edition-into.ensures _ c.split_of.ensures _ c.choose.ensures _ _ c.in-Some.is)
 
-pub returns-in-Refused : goal.returns-in-Refused
-returns-in-Refused c = join-refused _ _ _ _ _ (sym c.in-Refused.is ∙ c.check.ensures)
+pub returns-in-Err : goal.returns-in-Err
+returns-in-Err c = join-refused _ _ _ _ _ (sym c.in-Err.is ∙ c.check.ensures)
 
-pub returns-in-Pair : goal.returns-in-Pair
-returns-in-Pair c = join-pair _ _ _ _ (sym c.in-Passed.is ∙ c.check.ensures) _ c.new_edition-into.ensures _ c.split_of.ensures _ c.choose.ensures _ _ c.in-Pair.is
+pub returns-in-Some : goal.returns-in-Some
+returns-in-Some c = join-pair _ _ _ _ (sym c.in-Ok.is ∙ c.check.ensures) _ c.new_edition-into.ensures _ c.split_of.ensures _ c.choose.ensures _ _ c.in-Some.is
 
-pub returns-in-Nothing : goal.returns-in-Nothing
-returns-in-Nothing c = join-none _ _ _ _ (sym c.in-Passed.is ∙ c.check.ensures) _ c.new_edition-into.ensures _ c.split_of.ensures _ c.choose.ensures c.in-Nothing.is
+pub returns-in-None : goal.returns-in-None
+returns-in-None c = join-none _ _ _ _ (sym c.in-Ok.is ∙ c.check.ensures) _ c.new_edition-into.ensures _ c.split_of.ensures _ c.choose.ensures c.in-None.is

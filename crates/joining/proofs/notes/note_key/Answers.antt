@@ -20,9 +20,6 @@ offset_bounds-cells-i c = scaled_Fits _ _ 4 (search-inside _ _ _ _ (is_at c)).be
 pub bounds-cells-i : goal.bounds-cells-i
 bounds-cells-i c = (search-inside _ _ _ _ (is_at (goal.at.bounds-cells-i c).In-At)).below
 
-pub overflow_cast-newest : goal.overflow_cast-newest
-overflow_cast-newest c = omega (arith, c.type_inv.cells c.in-At.i)
-
 pub overflow_add-place : goal.overflow_add-place
 overflow_add-place c = omega (arith, slot-low c.args.slot c.args.size c.requires.slot_bound c.requires.size_bound, c.requires.place_bound)
 

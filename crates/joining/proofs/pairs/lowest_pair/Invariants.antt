@@ -1,5 +1,4 @@
 -- `joining::pairs::lowest_pair` meets its contract.
-use Prim.Native.Nat.{◌-◌, ◌≤◌}
 use mathlib.Core.Path.{◌≡◌}
 use mathlib.Core.Option.{none}
 use Rattle.segment.specs.Layout.{digest_size}
@@ -8,7 +7,4 @@ use Rattle.joining.specs.PairLaws.{pairs_below}
 use Rattle.joining.proofs.pairs.lowest_pair.Given as goal
 
 abbrev pub invariant-loop-i : goal.invariant-loop-i
-invariant-loop-i l = (l.i ≤ l.split.slots) × (pairs_below (numbers_fit l.totals l.shares l.split (digest_size l.edition)) l.split.slots l.i ≡ none)
-
-abbrev pub decreases-loop-i : goal.decreases-loop-i
-decreases-loop-i l = l.split.slots - l.i
+invariant-loop-i l = pairs_below (numbers_fit l.totals l.shares l.split (digest_size l.edition)) l.split.slots l.i ≡ none

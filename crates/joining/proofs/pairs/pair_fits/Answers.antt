@@ -1,6 +1,6 @@
 -- `joining::pairs::pair_fits` meets its contract.
 use mathlib.Core.Path.{refl, sym, ◌∙◌}
-use Prim.Native.Nat.{◌+◌, ◌*◌, ◌≤◌}
+use Prim.Native.Nat.{◌≤◌}
 use native.Mathlib.Omega.{arith}
 use Rattle.segment.proofs.LayoutLaws.{width-high}
 use Rattle.joining.specs.WeightsLaws.{fits-order, fits-first, fits-second, fits_both}
@@ -19,29 +19,11 @@ returns-then-not-is_named c = fits-first _ _ _ _ _ _ (omega (arith, c.if-j-i.fal
 pub returns-then-not-is_named-2 : goal.returns-then-not-is_named-2
 returns-then-not-is_named-2 c = fits-second _ _ _ _ c.args.i c.args.j (omega (arith, c.if-j-i.false)) (sym c.is_named-2.ensures ∙ c.if-not-is_named-2.true)
 
-pub overflow_cast-both : goal.overflow_cast-both
-overflow_cast-both c = omega (arith, c.type_inv.totals c.args.i)
-
 pub overflow_add-both : goal.overflow_add-both
 overflow_add-both c = omega (arith, digest-few (goal.at.overflow_add-both c).After-digest_size, c.type_inv.totals c.args.i)
 
-pub overflow_cast-both-2 : goal.overflow_cast-both-2
-overflow_cast-both-2 c = omega (arith, c.type_inv.totals c.args.j)
-
 pub overflow_add-both-2 : goal.overflow_add-both-2
 overflow_add-both-2 c = omega (arith, digest-few (goal.at.overflow_add-both-2 c).After-digest_size, c.type_inv.totals c.args.i, c.type_inv.totals c.args.j)
-
-pub overflow_cast-result : goal.overflow_cast-result
-overflow_cast-result c = omega (arith, c.type_inv.shares (c.args.i * 32 + c.args.j))
-
-pub overflow_add-result : goal.overflow_add-result
-overflow_add-result c = omega (arith, c.type_inv.shares (c.args.i * 32 + c.args.j), c.requires.pairs_fit.size-high)
-
-pub overflow_cast-result-2 : goal.overflow_cast-result-2
-overflow_cast-result-2 c = omega (arith, c.type_inv.shares (c.args.j * 32 + c.args.i))
-
-pub overflow_add-result-2 : goal.overflow_add-result-2
-overflow_add-result-2 c = omega (arith, c.type_inv.shares (c.args.i * 32 + c.args.j), c.type_inv.shares (c.args.j * 32 + c.args.i), c.requires.pairs_fit.size-high)
 
 pub returns : goal.returns
 returns c =

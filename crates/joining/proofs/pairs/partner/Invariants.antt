@@ -1,5 +1,4 @@
 -- `joining::pairs::partner` meets its contract.
-use Prim.Native.Nat.{◌-◌, ◌≤◌}
 use mathlib.Core.Path.{◌≡◌}
 use mathlib.Core.Option.{none}
 use Rattle.segment.specs.Layout.{digest_size}
@@ -8,7 +7,4 @@ use Rattle.joining.specs.Weights.{numbers_fit}
 use Rattle.joining.proofs.pairs.partner.Given as goal
 
 abbrev pub invariant-loop-j : goal.invariant-loop-j
-invariant-loop-j l = (l.j ≤ l.split.slots) × (partner_of (numbers_fit l.totals l.shares l.split (digest_size l.edition)) l.j l.i ≡ none)
-
-abbrev pub decreases-loop-j : goal.decreases-loop-j
-decreases-loop-j l = l.split.slots - l.j
+invariant-loop-j l = partner_of (numbers_fit l.totals l.shares l.split (digest_size l.edition)) l.j l.i ≡ none

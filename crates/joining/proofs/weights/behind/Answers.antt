@@ -12,12 +12,6 @@ met c = meets _ _ _ _ c.next.ensures _ c.in-Entry.is
 pub loop-header-init : goal.loop-header-init
 loop-header-init c = passed_start _ _ _ c.requires.from_in_bounds
 
-pub returns-then-header : goal.returns-then-header
-returns-then-header c = c.loop-header.invariant
-
-pub returns-then-header-count : goal.returns-then-header-count
-returns-then-header-count c = c.loop-header.invariant
-
 pub overflow_add-at : goal.overflow_add-at
 overflow_add-at c = omega (arith, (met (goal.at.overflow_add-at c).In-Entry).fits, c.if-header-count.false, c.requires.s_len_bound)
 
@@ -26,9 +20,3 @@ loop-header-smaller c = omega (arith, (met (goal.at.loop-header-smaller c).In-En
 
 pub loop-header-preserved : goal.loop-header-preserved
 loop-header-preserved c = passed-object _ _ _ _ c.loop-header.invariant (met (goal.at.loop-header-preserved c).In-Entry) c.if-header.false _ c.if-header-count.false
-
-pub returns-in-End : goal.returns-in-End
-returns-in-End c = c.loop-header.invariant
-
-pub returns-in-Damage : goal.returns-in-Damage
-returns-in-Damage c = c.loop-header.invariant

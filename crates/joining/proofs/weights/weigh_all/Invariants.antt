@@ -1,10 +1,6 @@
 -- `joining::weights::weigh_all` meets its contract.
-use Prim.Native.Nat.{◌-◌, ◌≤◌}
 use Rattle.joining.specs.Weights.{Rows}
 use Rattle.joining.proofs.weights.weigh_all.Given as goal
 
 abbrev pub invariant-loop-i : goal.invariant-loop-i
-invariant-loop-i l = (l.i ≤ l.split.slots) × Rows l.into l.area l.cells l.notes l.split l.i l.totals l.shares
-
-abbrev pub decreases-loop-i : goal.decreases-loop-i
-decreases-loop-i l = l.split.slots - l.i
+invariant-loop-i l = Rows l.into l.area l.cells l.notes l.split l.i l.totals l.shares

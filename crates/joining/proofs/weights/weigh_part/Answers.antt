@@ -17,20 +17,6 @@ returns-then-tombstones-slot-eq0 c =
 pub cut-requires : goal.cut-requires
 cut-requires c = slot-lies c.requires.notes_fit.slots c.args.slot c.requires.slot_lt_slots
 
-pub weigh_slot-total-requires : goal.weigh_slot-total-requires
-weigh_slot-total-requires c =
-    record {
-      slots_fit = c.requires.notes_fit.slots;
-      notes_len = c.requires.notes_fit.notes-long;
-      slot_lt_slots = c.requires.slot_lt_slots;
-      shares_len = c.requires.rows.shares-long;
-      clear = c.requires.rows.clear;
-    }
-
-pub overflow_add-totals : goal.overflow_add-totals
-overflow_add-totals c =
-    omega (arith, c.requires.rows.few c.args.slot (omega arith), c.weigh_slot-total.ensures.small)
-
 pub returns : goal.returns
 returns c =
     rows_more _ _ _ _ _ _ _ _ c.requires.rows (omega (arith, c.requires.slot_lt_slots, c.requires.notes_fit.slots.slots-high)) c.requires.slot_lt_slots

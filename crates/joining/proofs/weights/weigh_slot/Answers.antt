@@ -37,9 +37,6 @@ head_few c = omega (arith, c.head_size-head.ensures, width-high c.args.edition)
 row : (c : At-loop-header) → c.args.slot * 32 + 32 ≤ length c.loop-header.shares
 row c = omega (arith, (so_far c).same_length, c.requires.shares_len, c.requires.slot_lt_slots, c.requires.slots_fit.slots-high)
 
-pub overflow_mul-base : goal.overflow_mul-base
-overflow_mul-base c = omega (arith, c.requires.slot_lt_slots, c.requires.slots_fit.slots-high)
-
 counted-few : (c : After-head_size-counted) → c.head_size-counted.result ≤ 15
 counted-few c = omega (arith, c.head_size-counted.ensures, width-high c.args.into)
 

@@ -4,11 +4,11 @@ use Rattle.scanning.specs.Seeking.{answer_of}
 use Rattle.kurdavel.specs.CrossingLaws.{scan-crossed}
 use Rattle.kurdavel.proofs.scan.kurdavel_scan_read.Goals as goal
 
-pub returns-in-Refused : goal.returns-in-Refused
+pub returns-in-Err : goal.returns-in-Err
 unfolding answer_of
-returns-in-Refused c =
-    scan-crossed c.seek.ensures c.in-Refused.is c.number.ensures refl refl
+returns-in-Err c =
+    scan-crossed c.seek.ensures c.in-Err.is c.number.ensures refl refl
 
-pub returns-in-Object : goal.returns-in-Object
+pub returns-in-Ok : goal.returns-in-Ok
 unfolding answer_of
-returns-in-Object c = scan-crossed c.seek.ensures c.in-Object.is refl refl refl
+returns-in-Ok c = scan-crossed c.seek.ensures c.in-Ok.is refl refl refl

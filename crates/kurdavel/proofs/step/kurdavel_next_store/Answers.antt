@@ -39,16 +39,16 @@ found-is s =
     front-found a.words.now a.area.now a.work.now _ s.fits.ensures (ap not s.if-not-fits.false) (s.found_in.ensures.told a.work.now refl)
 
 pub byte_from-requires : goal.byte_from-requires
-byte_from-requires c = c.found_in.ensures.inside _ _ _ c.in-At.is
+byte_from-requires c = c.found_in.ensures.inside _ _ _ c.in-Ok.is
 
-pub returns-in-Refused : goal.returns-in-Refused
+pub returns-in-Err : goal.returns-in-Err
 unfolding place_told byte_told answered
-returns-in-Refused c =
+returns-in-Err c =
     let a = c.args in
-    told-crossed a.words.now a.area.now a.work.now (found-is (goal.at.returns-in-Refused c).After-found_in) (ap (answered a.work.now) c.in-Refused.is) c.number.ensures refl refl
+    told-crossed a.words.now a.area.now a.work.now (found-is (goal.at.returns-in-Err c).After-found_in) (ap (answered a.work.now) c.in-Err.is) c.number.ensures refl refl
 
-pub returns-in-At : goal.returns-in-At
+pub returns-in-Ok : goal.returns-in-Ok
 unfolding place_told byte_told answered
-returns-in-At c =
+returns-in-Ok c =
     let a = c.args in
-    told-crossed a.words.now a.area.now a.work.now (found-is (goal.at.returns-in-At c).After-found_in) (ap (answered a.work.now) c.in-At.is) refl refl c.byte_from.ensures
+    told-crossed a.words.now a.area.now a.work.now (found-is (goal.at.returns-in-Ok c).After-found_in) (ap (answered a.work.now) c.in-Ok.is) refl refl c.byte_from.ensures

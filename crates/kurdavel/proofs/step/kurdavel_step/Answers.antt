@@ -1,11 +1,12 @@
 -- `kurdavel::step::kurdavel_step` meets its contract.
+use Rattle.std.specs.Prelude.{Ok}
 use borrow.Author.Rules.{rules}
 use mathlib.Core.Bool.{not}
-use Prim.Native.Nat.{◌≤◌, ◌<◌}
+use Prim.Native.Nat.{ℕ, ◌≤◌, ◌<◌}
 use mathlib.Core.Path.{◌≡◌, refl, sym, ◌∙◌, ap}
 use native.Mathlib.Omega.{arith}
 use lib.ListN.{length}
-use Rattle.record.specs.declared.TellAnswer.{TellAnswer}
+use Rattle.record.specs.Answered.{TellAnswer}
 use Rattle.telling.specs.Told.{found_by}
 use Rattle.telling.specs.Places.{answered}
 use Rattle.words.specs.Words.{record_words, word, decoded}
@@ -41,21 +42,21 @@ long s =
     front_long a.words.now a.area.now a.work.now (length a.index.now) s.fits.ensures (ap not s.if-not-fits.false)
 
 pub byte_from-requires : goal.byte_from-requires
-byte_from-requires c = c.found_in.ensures.inside _ _ _ c.in-At.is
+byte_from-requires c = c.found_in.ensures.inside _ _ _ c.in-Ok.is
 
 -- the store that is made
 at-is : (b : After-byte_from)
     → let a = b.args in
     found_by (decoded a.words.now).rec.edition (decoded a.words.now).rec a.area.now (length a.index.now) a.work.now
-    ≡ TellAnswer.At b.in-At.place b.byte_from.result
+    ≡ Ok (record { place = b.in-Ok.next.place; byte = b.byte_from.result })
 unfolding answered
 at-is b =
     let a = b.args in
     sym ((let a = b.args in
-    front-found a.words.now a.area.now a.work.now (length a.index.now) b.fits.ensures (ap not b.if-not-fits.false) (b.found_in.ensures.told a.work.now refl))) ∙ ap (answered a.work.now) b.in-At.is ∙ ap (TellAnswer.At b.in-At.place) (sym b.byte_from.ensures)
+    front-found a.words.now a.area.now a.work.now (length a.index.now) b.fits.ensures (ap not b.if-not-fits.false) (b.found_in.ensures.told a.work.now refl))) ∙ ap (answered a.work.now) b.in-Ok.is ∙ ap (λ (n : ℕ). Ok (record { place = b.in-Ok.next.place; byte = n })) (sym b.byte_from.ensures)
 
-pub bounds-area-place : goal.bounds-area-place
-bounds-area-place c = let a = c.args in on-inside a.words.now a.area.now a.work.now (length a.index.now) _ _ (at-is c)
+pub bounds-area-next : goal.bounds-area-next
+bounds-area-next c = let a = c.args in on-inside a.words.now a.area.now a.work.now (length a.index.now) _ _ (at-is (goal.at.bounds-area-next c).After-byte_from)
 
 pub bounds-words-16 : goal.bounds-words-16
 bounds-words-16 c = omega (arith, long (goal.at.bounds-words-16 c).After-found_in)
@@ -75,15 +76,15 @@ returns-then-rest-eq0 c =
     let a = c.args in
     on-last a.words.now a.area.now a.work.now a.index.now _ _ _ _ (at-is (goal.at.returns-then-rest-eq0 c).After-byte_from) c.finish.ensures
 
-pub bounds-words-16-in-At : goal.bounds-words-16-in-At
-bounds-words-16-in-At c = omega (arith, long (goal.at.bounds-words-16-in-At c).After-found_in)
+pub bounds-words-16-in-Ok : goal.bounds-words-16-in-Ok
+bounds-words-16-in-Ok c = omega (arith, long (goal.at.bounds-words-16-in-Ok c).After-found_in)
 
-pub returns-in-Refused : goal.returns-in-Refused
+pub returns-in-Err : goal.returns-in-Err
 unfolding answered
-returns-in-Refused c =
+returns-in-Err c =
     let half : word c.args.words.now 7 < 4294967296 = search rules in
     let a = c.args in
-    on-refused a.words.now a.area.now a.work.now (half) a.index.now _ _ _ (sym (found-is (goal.at.returns-in-Refused c).After-found_in) ∙ ap (answered a.work.now) c.in-Refused.is) c.number.ensures
+    on-refused a.words.now a.area.now a.work.now (half) a.index.now _ _ _ (sym (found-is (goal.at.returns-in-Err c).After-found_in) ∙ ap (answered a.work.now) c.in-Err.is) c.number.ensures
 
 pub returns-else-rest-eq0 : goal.returns-else-rest-eq0
 returns-else-rest-eq0 c =

@@ -1,24 +1,21 @@
 use Prim.Native.Nat.{◌+◌}
 use mathlib.Core.Path.{refl, ◌∙◌, ap}
 use mathlib.Core.Bool.{Bool}
-use native.Mathlib.Omega.{arith}
 use lib.ListN.{drop}
 use Rattle.segment.specs.Choice.{both}
 use Rattle.record.specs.Range.{counts_good}
 use Rattle.record.specs.RangeLaws.{counts-turn, counts_end}
 use Rattle.record.proofs.range.counts_good.Goals as goal
 
-pub loop-i-init : goal.loop-i-init
+pub loop-count-init : goal.loop-count-init
 unfolding both
-loop-i-init c = (omega arith, refl)
+loop-count-init c = refl
 
-pub loop-i-preserved : goal.loop-i-preserved
-loop-i-preserved c = (
-  omega arith,
-  ap (λ (t : Bool). both t (counts_good c.args.limit (drop (c.loop-i.i + 1) c.args.counts.now))) c.still_good-good.ensures
-      ∙ counts-turn _ _ _ _ c.loop-i-test.true
-      ∙ c.loop-i.invariant.1,
-)
+pub loop-count-preserved : goal.loop-count-preserved
+loop-count-preserved c =
+    ap (λ (t : Bool). both t (counts_good c.args.limit (drop (c.loop-count.count-index + 1) c.args.counts.now))) c.still_good-good.ensures
+    ∙ counts-turn _ _ _ _ c.loop-count-test.true
+    ∙ c.loop-count.invariant
 
 pub returns : goal.returns
-returns c = counts_end _ _ _ _ c.loop-i-test.false ∙ c.loop-i.invariant.1
+returns c = counts_end _ _ _ _ c.loop-count-test.false ∙ c.loop-count.invariant

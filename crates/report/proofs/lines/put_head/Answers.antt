@@ -7,5 +7,5 @@ pub returns : goal.returns
 returns c =
     within_more (omega arith)
     (within-then
-    (within-then (within-then (within-put c.put-at.ensures) c.put_version-at.ensures) c.put_field-at.ensures)
+    (within-then (within-then (within-put c.put-at.ensures) c.put_field-at.ensures) c.put_field-at-2.ensures)
     c.put_field.ensures)

@@ -5,5 +5,5 @@ use Rattle.report.proofs.lines.put_key.Goals as goal
 pub returns : goal.returns
 returns c =
     within-then
-    (within-then (within-then c.put_field-at.ensures c.put_field-at-2.ensures) c.put_version-at.ensures)
+    (within-then (within-then c.put_field-at.ensures c.put_field-at-2.ensures) c.put_field-at-3.ensures)
     c.put_field.ensures

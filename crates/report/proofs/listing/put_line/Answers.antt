@@ -14,18 +14,10 @@ line : (c : After-find)
     → let a = c.args in line_found a.key c.find.result ≡ line_of a.key (present (log_now a.area.now a.rec) a.key)
 line c = line-found _ _ _ _ _ _ c.requires.0 c.find.ensures
 
-pub returns-in-Object : goal.returns-in-Object
+pub returns-in-Ok : goal.returns-in-Ok
 unfolding line_found
-returns-in-Object c = within_same (sym (ap (line_found _) c.in-Object.is) ∙ line (goal.at.returns-in-Object c).After-find) c.put_key.ensures
+returns-in-Ok c = within_same (sym (ap (line_found _) c.in-Ok.is) ∙ line (goal.at.returns-in-Ok c).After-find) c.put_key.ensures
 
-pub returns-in-Absent : goal.returns-in-Absent
+pub returns-in-Err : goal.returns-in-Err
 unfolding line_found
-returns-in-Absent c = within_same (sym (ap (line_found _) c.in-Absent.is) ∙ line (goal.at.returns-in-Absent c).After-find) (within_none _ _ _)
-
-pub returns-in-Outside : goal.returns-in-Outside
-unfolding line_found
-returns-in-Outside c = within_same (sym (ap (line_found _) c.in-Outside.is) ∙ line (goal.at.returns-in-Outside c).After-find) (within_none _ _ _)
-
-pub returns-in-Bad : goal.returns-in-Bad
-unfolding line_found
-returns-in-Bad c = within_same (sym (ap (line_found _) c.in-Bad.is) ∙ line (goal.at.returns-in-Bad c).After-find) (within_none _ _ _)
+returns-in-Err c = within_same (sym (ap (line_found _) c.in-Err.is) ∙ line (goal.at.returns-in-Err c).After-find) (within_none _ _ _)

@@ -9,8 +9,5 @@ returns-then-not-faulty c = rw c.if-not-faulty.true (next-record c.args.area.now
 pub survey-passed-requires : goal.survey-passed-requires
 survey-passed-requires c = shape c.args.area.now (area-long c.args.area.now c.args.rec c.requires.1 c.requires.0)
 
-pub returns-then-limit-highest : goal.returns-then-limit-highest
-returns-then-limit-highest c = rw c.if-not-faulty.false (next-log c.args.area.now c.args.rec c.requires.0 c.survey-passed.result.sound c.survey-passed.result.highest.0 c.survey-passed.result.apart c.survey-passed.ensures _ (omega arith))
-
 pub returns : goal.returns
 returns c = rw c.if-not-faulty.false (next-log c.args.area.now c.args.rec c.requires.0 c.survey-passed.result.sound c.survey-passed.result.highest.0 c.survey-passed.result.apart c.survey-passed.ensures _ (omega arith))

@@ -25,11 +25,11 @@ returns-then-gather-count c = other-count c.args.faulty (log_now c.args.area.now
 pub key_as-requires : goal.key_as-requires
 key_as-requires c = (c.requires, rw c.first_key.ensures (lit< tt))
 
-pub returns-then-not-key_as : goal.returns-then-not-key_as
-returns-then-not-key_as c = other-first c.args.faulty (log_now c.args.area.now c.args.rec) c.args.rec c.args.book c.next_of.result c.next_of.ensures c.if-next_of-book.false c.gather.result c.count.result (gathered-listed _ c.args.area.now c.args.rec c.args.index.now _ c.gather.result (recovered-area c.args.area.now c.args.rec c.args.index.now c.requires) c.gather.auto.ranks c.gather.ensures).counts c.count.ensures c.if-gather-count.false c.key_as.result (c.key_as.ensures ∙ ap (λ (k : Key). key_as (present (log_now c.args.area.now c.args.rec) k) c.args.book.first) c.first_key.ensures) c.if-not-key_as.true
+pub returns-else-key_as : goal.returns-else-key_as
+returns-else-key_as c = c.if-key_as.false ∙ other-first c.args.faulty (log_now c.args.area.now c.args.rec) c.args.rec c.args.book c.next_of.result c.next_of.ensures c.if-next_of-book.false c.gather.result c.count.result (gathered-listed _ c.args.area.now c.args.rec c.args.index.now _ c.gather.result (recovered-area c.args.area.now c.args.rec c.args.index.now c.requires) c.gather.auto.ranks c.gather.ensures).counts c.count.ensures c.if-gather-count.false c.key_as.result (c.key_as.ensures ∙ ap (λ (k : Key). key_as (present (log_now c.args.area.now c.args.rec) k) c.args.book.first) c.first_key.ensures) c.if-key_as.false
 
-pub key_as-requires-2 : goal.key_as-requires-2
-key_as-requires-2 c = (c.requires, rw c.second_key.ensures (lit< tt))
+pub key_as-requires-then-key_as : goal.key_as-requires-then-key_as
+key_as-requires-then-key_as c = (c.requires, rw c.second_key.ensures (lit< tt))
 
-pub returns : goal.returns
-returns c = second-decides c.args.faulty (log_now c.args.area.now c.args.rec) c.args.rec c.args.book c.next_of.result c.next_of.ensures c.if-next_of-book.false c.gather.result c.count.result (gathered-listed _ c.args.area.now c.args.rec c.args.index.now _ c.gather.result (recovered-area c.args.area.now c.args.rec c.args.index.now c.requires) c.gather.auto.ranks c.gather.ensures).counts c.count.ensures c.if-gather-count.false c.key_as.result (c.key_as.ensures ∙ ap (λ (k : Key). key_as (present (log_now c.args.area.now c.args.rec) k) c.args.book.first) c.first_key.ensures) c.if-not-key_as.false _ (c.key_as-2.ensures ∙ ap (λ (k : Key). key_as (present (log_now c.args.area.now c.args.rec) k) c.args.book.second) c.second_key.ensures)
+pub returns-then-key_as : goal.returns-then-key_as
+returns-then-key_as c = second-decides c.args.faulty (log_now c.args.area.now c.args.rec) c.args.rec c.args.book c.next_of.result c.next_of.ensures c.if-next_of-book.false c.gather.result c.count.result (gathered-listed _ c.args.area.now c.args.rec c.args.index.now _ c.gather.result (recovered-area c.args.area.now c.args.rec c.args.index.now c.requires) c.gather.auto.ranks c.gather.ensures).counts c.count.ensures c.if-gather-count.false c.key_as.result (c.key_as.ensures ∙ ap (λ (k : Key). key_as (present (log_now c.args.area.now c.args.rec) k) c.args.book.first) c.first_key.ensures) c.if-key_as.true _ (c.key_as-then-key_as.ensures ∙ ap (λ (k : Key). key_as (present (log_now c.args.area.now c.args.rec) k) c.args.book.second) c.second_key.ensures)

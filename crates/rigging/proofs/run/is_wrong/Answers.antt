@@ -1,40 +1,49 @@
 use mathlib.Core.List.{[]}
-use Prim.Native.Nat.{◌-◌}
-use mathlib.Core.Path.{refl, sym}
+use mathlib.Core.Path.{refl, sym, ap, ◌∙◌}
 use native.Mathlib.Omega.{arith}
-use Rattle.rig_model.proofs.CheckLaws.{area-long}
-use Rattle.histories.specs.Numbered.{word, unit-positive}
+use Rattle.std.specs.Prelude.{true, false}
+use Rattle.histories.specs.declared.WordNumber.{WordNumber}
+use Rattle.histories.specs.Numbered.{word, one_less}
 use Rattle.rig_model.specs.Verdict.{history_wrong}
+use Rattle.rig_model.proofs.CheckLaws.{area-long}
 use Rattle.rig_model.proofs.PlayLaws.{format-fresh, fresh-ready, word-start}
 use Rattle.rig_model.proofs.LoopLaws.{run-wrong, run-turn, run_end}
 use Rattle.rigging.proofs.run.is_wrong.Goals as goal
 
-pub loop-left-init : goal.loop-left-init
-loop-left-init c = (omega arith, record { ready = fresh-ready _ _ _ c.recover-fresh.result (format-fresh _ _ c.format.ensures) refl c.recover-fresh.ensures; work-long = refl; decides = word-start c.args.faulty _ _ _ (format-fresh _ _ c.format.ensures) c.fresh-book.ensures })
-
-pub nonzero_div-rest : goal.nonzero_div-rest
-nonzero_div-rest c = unit-positive (c.loop-left.left - 1) c.words-unit.result c.words-unit.ensures
-
-pub nonzero_rem-rest : goal.nonzero_rem-rest
-nonzero_rem-rest c = unit-positive (c.loop-left.left - 1) c.words-unit.result c.words-unit.ensures
+pub loop-l-init : goal.loop-l-init
+loop-l-init c =
+    let same = c.into_iter-l-iterator.ensures.into_iter_gives in (
+      omega (arith, ap (λ (x : WordNumber). x.letters) same),
+      record {
+        ready = fresh-ready _ _ _ c.recover-fresh.result (format-fresh _ _ c.format.ensures) refl c.recover-fresh.ensures;
+        work-long = refl;
+        decides =
+            ap (λ (x : WordNumber). history_wrong c.args.faulty (word x.letters x.number)) (sym same)
+            ∙ word-start c.args.faulty _ _ _ (format-fresh _ _ c.format.ensures) c.fresh-book.ensures;
+      },
+    )
 
 pub slice_bounds-play-end : goal.slice_bounds-play-end
-slice_bounds-play-end c = sym (area-long c.loop-left.area c.loop-left.rec c.loop-left.invariant.1.ready.bytes c.loop-left.invariant.1.ready.recovers)
+slice_bounds-play-end c = sym (area-long c.loop-l.area c.loop-l.rec c.loop-l.invariant.1.ready.bytes c.loop-l.invariant.1.ready.recovers)
 
-pub play-played-requires : goal.play-played-requires
-play-played-requires c = (c.loop-left.invariant.1.ready, c.loop-left.invariant.1.work-long)
+pub play-requires : goal.play-requires
+play-requires c = (c.loop-l.invariant.1.ready, c.loop-l.invariant.1.work-long)
 
-pub returns-then-played : goal.returns-then-played
-returns-then-played c = run-wrong c.args.faulty (history_wrong c.args.faulty (word c.args.letters c.args.number)) c.loop-left.left c.loop-left.rest c.loop-left.place c.loop-left.area c.loop-left.index c.loop-left.work c.loop-left.rec c.loop-left.book c.loop-left.invariant.1 c.words-unit.result c.letter_of-l.result (record { some_left = omega arith; unit-is = c.words-unit.ensures; letter-is = c.letter_of-l.ensures }) _ _ [] c.play-played.result.rec c.play-played.result.book c.play-played.result.wrong c.play-played.ensures c.if-played.true
+pub returns-in_default : goal.returns-in_default
+returns-in_default c =
+    run-wrong c.args.faulty _ _ _ c.loop-l.place c.loop-l.area c.loop-l.index c.loop-l.work c.loop-l.rec c.loop-l.book c.loop-l.invariant.1
+    c.in-Some.l c.in-Some.ensures.steps c.play.new.area c.play.new.index [] c.loop-l.rec c.loop-l.book true c.in_default.ensures refl
 
-pub loop-left-smaller : goal.loop-left-smaller
-loop-left-smaller c = omega arith
-
-pub loop-left-preserved : goal.loop-left-preserved
-loop-left-preserved c = (omega arith, run-turn c.args.faulty (history_wrong c.args.faulty (word c.args.letters c.args.number)) c.loop-left.left c.loop-left.rest c.loop-left.place c.loop-left.area c.loop-left.index c.loop-left.work c.loop-left.rec c.loop-left.book c.loop-left.invariant.1 c.words-unit.result c.letter_of-l.result (record { some_left = omega arith; unit-is = c.words-unit.ensures; letter-is = c.letter_of-l.ensures }) _ _ _ c.play-played.result.rec c.play-played.result.book c.play-played.result.wrong c.play-played.ensures c.if-played.false (omega (arith, c.play-played.auto.work, c.loop-left.invariant.1.work-long)) _ _ refl refl)
+pub loop-l-preserved : goal.loop-l-preserved
+loop-l-preserved c = (
+  omega (arith, c.loop-l.invariant.0, one_less _ _ _ _ _ c.in-Some.ensures.steps),
+  run-turn c.args.faulty _ _ _ c.loop-l.place c.loop-l.area c.loop-l.index c.loop-l.work c.loop-l.rec c.loop-l.book c.loop-l.invariant.1
+      c.in-Some.l c.in-Some.ensures.steps c.play.new.area c.play.new.index c.play.new.work c.in-Some-play.played.rec c.in-Some-play.played.book false c.in-Some-play.ensures refl
+      (omega (arith, c.play.auto.work, c.loop-l.invariant.1.work-long)) _ _ refl refl,
+)
 
 pub slice_bounds-recovers_wrongly-end : goal.slice_bounds-recovers_wrongly-end
-slice_bounds-recovers_wrongly-end c = sym (area-long c.loop-left.area c.loop-left.rec c.loop-left.invariant.1.ready.bytes c.loop-left.invariant.1.ready.recovers)
+slice_bounds-recovers_wrongly-end c = sym (area-long c.loop-l.area c.loop-l.rec c.loop-l.invariant.1.ready.bytes c.loop-l.invariant.1.ready.recovers)
 
 pub returns : goal.returns
-returns c = run_end c.args.faulty (history_wrong c.args.faulty (word c.args.letters c.args.number)) c.loop-left.left c.loop-left.rest c.loop-left.place c.loop-left.area c.loop-left.index c.loop-left.work c.loop-left.rec c.loop-left.book c.loop-left.invariant.1 (omega arith) c.recovers_wrongly.result c.recovers_wrongly.ensures
+returns c = run_end c.args.faulty _ _ c.loop-l.place c.loop-l.area c.loop-l.index c.loop-l.work c.loop-l.rec c.loop-l.book c.loop-l.invariant.1 c.in-None.ensures.steps.0 c.recovers_wrongly.result c.recovers_wrongly.ensures

@@ -21,9 +21,6 @@ loop-header-init c =
           ∙ c.requires.slot_value),
     )
 
-pub skip_others-at-requires : goal.skip_others-at-requires
-skip_others-at-requires c = c.loop-header.invariant.1
-
 -- the entry that the turn passes
 met : (c : In-Entry)
     → Meets c.edition_of-edition.result c.cut-part.result.now c.skip_others-at.result c.in-Entry.header.version.0 c.in-Entry.header.length

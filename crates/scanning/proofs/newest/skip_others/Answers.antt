@@ -9,12 +9,6 @@ use Rattle.scanning.proofs.newest.skip_others.Goals.{Else-length-eq0}
 pub loop-at-init : goal.loop-at-init
 loop-at-init c = (skip-none _ _ _ _ c.requires, no-size-of-end _)
 
-pub size_after-length-requires : goal.size_after-length-requires
-size_after-length-requires c = c.loop-at.invariant.1
-
-pub returns-then-length-eq0 : goal.returns-then-length-eq0
-returns-then-length-eq0 c = c.loop-at.invariant.0
-
 -- the entry that the turn passes
 met : (c : Else-length-eq0)
     → (v : ℕ) × Meets c.args.edition c.args.part.now c.loop-at.at v c.size_after-length.result
@@ -25,9 +19,6 @@ overflow_add-at c = omega (arith, (met c).1.fits)
 
 pub read32-requires : goal.read32-requires
 read32-requires c = omega (arith, (met c).1.its-size, (met c).1.fits)
-
-pub returns-then-read32-key : goal.returns-then-read32-key
-returns-then-read32-key c = c.loop-at.invariant.0
 
 pub overflow_add-at-in-loop-at : goal.overflow_add-at-in-loop-at
 overflow_add-at-in-loop-at c = omega (arith, (met (goal.at.overflow_add-at-in-loop-at c).Else-length-eq0).1.fits)
@@ -40,6 +31,3 @@ loop-at-preserved c = (
   skip-turn _ _ _ _ c.loop-at.invariant.0 (met (goal.at.loop-at-preserved c).Else-length-eq0).1 _ c.read32.ensures c.if-read32-key.false,
   c.size_after-length.ensures,
 )
-
-pub returns : goal.returns
-returns c = c.loop-at.invariant.0

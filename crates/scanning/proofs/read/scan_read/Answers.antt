@@ -1,13 +1,17 @@
 -- `scanning::read::scan_read` meets its contract.
-use mathlib.Core.Path.{sym, ◌∙◌}
+use Rattle.std.specs.Prelude.{Err}
+use mathlib.Core.Path.{◌≡◌, sym, ◌∙◌}
+use borrow.Author.Rules.{rules}
 use Rattle.scanning.specs.Seeking.{answer_of}
 use Rattle.scanning.specs.SeekingLaws.{scan-promise}
 use Rattle.scanning.proofs.read.scan_read.Goals as goal
 
-pub returns-in-Refused : goal.returns-in-Refused
+pub returns-in_err-object : goal.returns-in_err-object
 unfolding answer_of
-returns-in-Refused c = scan-promise _ _ _ _ _ _ _ (sym c.in-Refused.is ∙ c.seek.ensures)
+returns-in_err-object c =
+    let e : c.from_residual.result ≡ Err c.in_err-object.field-0.0 = search rules in
+    rw e (scan-promise _ _ _ _ _ _ _ (sym c.in_err-object.was ∙ c.seek.ensures))
 
-pub returns-in-Object : goal.returns-in-Object
+pub returns : goal.returns
 unfolding answer_of
-returns-in-Object c = scan-promise _ _ _ _ _ _ _ (sym c.in-Object.is ∙ c.seek.ensures)
+returns c = scan-promise _ _ _ _ _ _ _ (sym c.in_ok-object.was ∙ c.seek.ensures)

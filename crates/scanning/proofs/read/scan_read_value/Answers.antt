@@ -5,53 +5,44 @@ use native.Mathlib.Omega.{arith}
 use lib.ListN.{take, drop}
 use Rattle.segment.specs.Layout.{Layout, layout_of_kind, entry_size}
 use Rattle.model.specs.Promises.{nowhere}
-use Rattle.recovery.specs.LookupLaws.{ObjectInside}
 use Rattle.scanning.specs.Seeking.{part_for}
+use Rattle.recovery.specs.LookupLaws.{ObjectInside}
 use Rattle.scanning.specs.SeekingLaws.{scan-value, sought-inside}
 use Rattle.scanning.proofs.read.scan_read_value.Goals as goal
-use Rattle.scanning.proofs.read.scan_read_value.Goals.{After-head_size, In-Object}
+use Rattle.scanning.proofs.read.scan_read_value.Goals.{After-head_size, In-Ok}
 
-inside : (c : In-Object)
-    → ObjectInside (layout_of_kind c.in-Object.kind) c.args.area.now c.in-Object.place c.in-Object.length
-inside c = sought-inside _ _ _ _ _ _ _ _ _ _ (sym c.in-Object.is ∙ c.seek.ensures)
+inside : (c : In-Ok)
+    → ObjectInside (layout_of_kind c.in-Ok.object.kind) c.args.area.now c.in-Ok.object.place c.in-Ok.object.length
+inside c = sought-inside _ _ _ _ _ _ _ _ _ _ (sym c.in-Ok.is ∙ c.seek.ensures)
 
 -- the value starts behind the head of the edition that the kind tells
-start : (c : After-head_size) → c.head_size.result ≡ entry_size (layout_of_kind c.in-Object.kind) 0
+start : (c : After-head_size) → c.head_size.result ≡ entry_size (layout_of_kind c.in-Ok.object.kind) 0
 start c = c.head_size.ensures ∙ ap (λ (L : Layout). entry_size L 0) c.edition_of_kind.ensures
 
+pub overflow_add-start : goal.overflow_add-start
+overflow_add-start c = let h = inside (goal.at.overflow_add-start c).In-Ok in omega (arith, start (goal.at.overflow_add-start c).After-head_size)
+
 pub overflow_add-result : goal.overflow_add-result
-overflow_add-result c = let h = inside (goal.at.overflow_add-result c).In-Object in omega (arith, start c)
+overflow_add-result c = let h = inside (goal.at.overflow_add-result c).In-Ok in omega (arith, start (goal.at.overflow_add-result c).After-head_size)
 
-pub overflow_add-result-in-Object : goal.overflow_add-result-in-Object
-overflow_add-result-in-Object c = let h = inside (goal.at.overflow_add-result-in-Object c).In-Object in omega (arith, start c)
+pub slice_bounds-result-count-in-Ok : goal.slice_bounds-result-count-in-Ok
+slice_bounds-result-count-in-Ok c = let h = inside (goal.at.slice_bounds-result-count-in-Ok c).In-Ok in omega (arith, start (goal.at.slice_bounds-result-count-in-Ok c).After-head_size)
 
-pub slice_bounds-result-count-in-Object : goal.slice_bounds-result-count-in-Object
-slice_bounds-result-count-in-Object c = let h = inside (goal.at.slice_bounds-result-count-in-Object c).In-Object in omega (arith, start c)
+pub slice_bounds-result-start-in-Ok : goal.slice_bounds-result-start-in-Ok
+slice_bounds-result-start-in-Ok c = let h = inside (goal.at.slice_bounds-result-start-in-Ok c).In-Ok in omega (arith, start (goal.at.slice_bounds-result-start-in-Ok c).After-head_size)
 
-pub slice_bounds-result-start-in-Object : goal.slice_bounds-result-start-in-Object
-slice_bounds-result-start-in-Object c = let h = inside (goal.at.slice_bounds-result-start-in-Object c).In-Object in omega (arith, start c)
+pub slice_bounds-result-end-in-Ok : goal.slice_bounds-result-end-in-Ok
+slice_bounds-result-end-in-Ok c = let h = inside (goal.at.slice_bounds-result-end-in-Ok c).In-Ok in omega (arith, start (goal.at.slice_bounds-result-end-in-Ok c).After-head_size)
 
-pub slice_bounds-result-end-in-Object : goal.slice_bounds-result-end-in-Object
-slice_bounds-result-end-in-Object c = let h = inside (goal.at.slice_bounds-result-end-in-Object c).In-Object in omega (arith, start c)
-
-pub returns-in-Refused : goal.returns-in-Refused
+pub returns-in-Ok : goal.returns-in-Ok
 unfolding part_for
-returns-in-Refused c =
-    record {
-      part = nowhere;
-      refers = record { inside = omega arith; same_block = refl; starts = refl; holds = refl };
-      promised = scan-value _ _ _ _ _ _ _ (sym c.in-Refused.is ∙ c.seek.ensures);
-    }
-
-pub returns-in-Object : goal.returns-in-Object
-unfolding part_for
-returns-in-Object c =
-    let h = inside (goal.at.returns-in-Object c).In-Object in
-    let L = layout_of_kind c.in-Object.kind in
-    let p = c.in-Object.place in
-    let n = c.in-Object.length in
+returns-in-Ok c =
+    let h = inside (goal.at.returns-in-Ok c).In-Ok in
+    let L = layout_of_kind c.in-Ok.object.kind in
+    let p = c.in-Ok.object.place in
+    let n = c.in-Ok.object.length in
     let long : p + n - (p + entry_size L 0) ≡ n - entry_size L 0 = omega arith in
-    rw (start (goal.at.returns-in-Object c).After-head_size)
+    rw (start (goal.at.returns-in-Ok c).After-head_size)
     (record {
       part = record { place = p + entry_size L 0; bytes = n - entry_size L 0 };
       refers =
@@ -61,5 +52,14 @@ returns-in-Object c =
             starts = refl;
             holds = ap (λ (m : ℕ). take m (drop (p + entry_size L 0) c.args.area.now)) long;
           };
-      promised = scan-value _ _ _ _ _ _ _ (sym c.in-Object.is ∙ c.seek.ensures);
+      promised = scan-value _ _ _ _ _ _ _ (sym c.in-Ok.is ∙ c.seek.ensures);
     })
+
+pub returns-in-Err : goal.returns-in-Err
+unfolding part_for
+returns-in-Err c =
+    record {
+      part = nowhere;
+      refers = record { inside = omega arith; same_block = refl; starts = refl; holds = refl };
+      promised = scan-value _ _ _ _ _ _ _ (sym c.in-Err.is ∙ c.seek.ensures);
+    }

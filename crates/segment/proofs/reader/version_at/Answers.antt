@@ -14,7 +14,7 @@ pub read64-requires : goal.read64-requires
 read64-requires c = omega (arith, second-width _ c.in-Second.is, c.requires)
 
 pub returns-in-First : goal.returns-in-First
-returns-in-First c = λ i. record { 0 = (c.read32.ensures ∙ ap (λ (n : ℕ). number_of (take n (drop c.args.at c.args.s.now))) (sym (first_width _ c.in-First.is))) i }
+returns-in-First c = λ i. record { 0 = (c.from.ensures ∙ c.read32.ensures ∙ ap (λ (n : ℕ). number_of (take n (drop c.args.at c.args.s.now))) (sym (first_width _ c.in-First.is))) i }
 
 pub returns-in-Second : goal.returns-in-Second
 returns-in-Second c = λ i. record { 0 = (c.read64.ensures ∙ ap (λ (n : ℕ). number_of (take n (drop c.args.at c.args.s.now))) (sym (second-width _ c.in-Second.is))) i }

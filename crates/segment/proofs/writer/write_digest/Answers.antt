@@ -1,34 +1,12 @@
 -- `segment::writer::write_digest` meets its contract.
 use Prim.Native.Nat.{ℕ, ◌+◌}
 use mathlib.Core.Path.{◌∙◌, ap}
-use native.Mathlib.Omega.{arith}
-use lib.ListN.{set, length-set}
+use lib.ListN.{set}
 use lib.Seq.{sets}
 use Rattle.word.specs.Number.{bytes_of}
 use Rattle.segment.specs.Layout.{table}
 use Rattle.segment.proofs.Written.{sets-packed}
-use Rattle.segment.proofs.LayoutLaws.{width_low}
 use Rattle.segment.proofs.writer.write_digest.Goals as goal
-
-pub write32-requires : goal.write32-requires
-write32-requires c =
-    let a = c.args in
-    omega (arith, width_low a.edition, length-set a.s.now a.at c.digest_kind-kind.result)
-
-pub write32-requires-2 : goal.write32-requires-2
-write32-requires-2 c =
-    let a = c.args in
-    omega (arith, width_low a.edition, length-set a.s.now a.at c.digest_kind-kind.result)
-
-pub write_version-requires : goal.write_version-requires
-write_version-requires c =
-    let a = c.args in
-    omega (arith, width_low a.edition, length-set a.s.now a.at c.digest_kind-kind.result)
-
-pub shape_of-s : goal.shape_of-s
-shape_of-s c =
-    let a = c.args in
-    omega (arith, width_low a.edition, length-set a.s.now a.at c.digest_kind-kind.result)
 
 pub returns : goal.returns
 returns c =

@@ -57,29 +57,29 @@ overflow_cast-result c =
     record {
       fits =
           tell-place _ (edition-laws _) c.args.rec c.args.area.now w c.requires (omega (arith, l, c.if-work-rec.false)) (left_is (goal.at.overflow_cast-result c).After-aim_of-aim) c.if-to-eq0.false (agrees-is (goal.at.overflow_cast-result c).After-aim_of-aim) c.if-not-aim.false
-          (next-is (goal.at.overflow_cast-result c).After-next_place w l) _ _ (ap (filled w) c.in-At.is);
+          (next-is (goal.at.overflow_cast-result c).After-next_place w l) _ _ (ap (filled w) c.in-Some.is);
     }
 
-pub overflow_cast-result-in-At : goal.overflow_cast-result-in-At
-overflow_cast-result-in-At c =
+pub overflow_cast-result-2 : goal.overflow_cast-result-2
+overflow_cast-result-2 c =
     record {
       fits =
-          omega (arith, (copies-slot _ _ _ _ _ _ _ _ _ _ _ (sym c.next_place.ensures ∙ c.in-At.is)).0);
+          omega (arith, (copies-slot _ _ _ _ _ _ _ _ _ _ _ (sym c.next_place.ensures ∙ c.in-Some.is)).0);
     }
 
-pub returns-in-Bad : goal.returns-in-Bad
+pub returns-in_default : goal.returns-in_default
 unfolding filled
-returns-in-Bad c =
+returns-in_default c =
     place-refused _ _ _ _ _
     (λ w l.
-    tell-nowhere _ (edition-laws _) c.args.rec c.args.area.now w c.requires (omega (arith, l, c.if-work-rec.false)) (left_is (goal.at.returns-in-Bad c).After-aim_of-aim) c.if-to-eq0.false (agrees-is (goal.at.returns-in-Bad c).After-aim_of-aim) c.if-not-aim.false
-    (next-is (goal.at.returns-in-Bad c).After-next_place w l) (ap (filled w) c.in-Bad.is))
+    tell-nowhere _ (edition-laws _) c.args.rec c.args.area.now w c.requires (omega (arith, l, c.if-work-rec.false)) (left_is (goal.at.returns-in_default c).After-aim_of-aim) c.if-to-eq0.false (agrees-is (goal.at.returns-in_default c).After-aim_of-aim) c.if-not-aim.false
+    (next-is (goal.at.returns-in_default c).After-next_place w l) (ap (filled w) c.in_default.is))
 
-pub returns-in-At : goal.returns-in-At
+pub returns : goal.returns
 unfolding filled
-returns-in-At c =
+returns c =
     place-told _ _ _ _ _ _ _
     (λ w l.
-    tell-at _ (edition-laws _) c.args.rec c.args.area.now w c.requires (omega (arith, l, c.if-work-rec.false)) (left_is (goal.at.returns-in-At c).After-aim_of-aim) c.if-to-eq0.false (agrees-is (goal.at.returns-in-At c).After-aim_of-aim) c.if-not-aim.false
-    (next-is (goal.at.returns-in-At c).After-next_place w l) _ _ (ap (filled w) c.in-At.is))
-    (copies-slot _ _ _ _ _ _ _ _ _ _ _ (sym c.next_place.ensures ∙ c.in-At.is)).1
+    tell-at _ (edition-laws _) c.args.rec c.args.area.now w c.requires (omega (arith, l, c.if-work-rec.false)) (left_is (goal.at.returns c).After-aim_of-aim) c.if-to-eq0.false (agrees-is (goal.at.returns c).After-aim_of-aim) c.if-not-aim.false
+    (next-is (goal.at.returns c).After-next_place w l) _ _ (ap (filled w) c.in-Some.is))
+    (copies-slot _ _ _ _ _ _ _ _ _ _ _ (sym c.next_place.ensures ∙ c.in-Some.is)).1

@@ -1,20 +1,24 @@
 -- `telling::tell::store_of` meets its contract: what is told of the place, with the work buffer's byte.
-use mathlib.Core.Path.{refl, sym, ◌∙◌, ap}
-use Rattle.record.specs.declared.TellAnswer.{TellAnswer}
+use Rattle.std.specs.Prelude.{ℕ, Ok, Err}
+use mathlib.Core.Path.{◌≡◌, refl, sym, ◌∙◌, ap}
+use borrow.Author.Rules.{rules}
+use Rattle.record.specs.Answered.{TellAnswer}
 use Rattle.telling.specs.Places.{answered}
 use Rattle.telling.proofs.tell.store_of.Goals as goal
 
 pub byte_from-byte-requires : goal.byte_from-byte-requires
-byte_from-byte-requires c = c.place_of.ensures.inside _ _ _ c.in-At.is
+byte_from-byte-requires c = c.place_of.ensures.inside _ _ _ c.in_ok-next.was
 
-pub returns-in-Refused : goal.returns-in-Refused
+pub returns-in_err-next : goal.returns-in_err-next
 unfolding answered
-returns-in-Refused c =
+returns-in_err-next c =
     let w = c.args.work.now in
-    sym (ap (answered w) c.in-Refused.is) ∙ c.place_of.ensures.told w refl
+    let e : c.from_residual.result ≡ Err c.in_err-next.field-0.0 = search rules in
+    e ∙ sym (ap (answered w) c.in_err-next.was) ∙ c.place_of.ensures.told w refl
 
-pub returns-in-At : goal.returns-in-At
+pub returns : goal.returns
 unfolding answered
-returns-in-At c =
+returns c =
     let w = c.args.work.now in
-    ap (TellAnswer.At c.in-At.place) c.byte_from-byte.ensures ∙ sym (ap (answered w) c.in-At.is) ∙ c.place_of.ensures.told w refl
+    ap (λ (b : ℕ). Ok (record { place = c.in_ok-next.next.place; byte = b })) c.byte_from-byte.ensures
+    ∙ sym (ap (answered w) c.in_ok-next.was) ∙ c.place_of.ensures.told w refl

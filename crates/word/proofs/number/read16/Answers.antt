@@ -4,4 +4,4 @@ use Rattle.word.specs.Laws.{number-two}
 use Rattle.word.proofs.number.read16.Goals as goal
 
 pub returns : goal.returns
-returns c = rw number-two (omega arith)
+returns c = rw number-two (omega (arith, c.from_le_bytes.ensures))

@@ -1,11 +1,9 @@
 -- `word::number::write16` meets its contract.
-use native.Mathlib.Omega.{arith}
-use lib.ListN.{length-set}
-use Rattle.word.specs.Laws.{sets-two}
+use mathlib.Core.Path.{◌∙◌}
+use Rattle.word.specs.Laws.{low-first, number-stored}
 use Rattle.word.proofs.number.write16.Goals as goal
 
-pub bounds-s-at-2 : goal.bounds-s-at-2
-bounds-s-at-2 c = simp length-set (omega arith)
-
 pub returns : goal.returns
-returns c = sets-two c.args.s.now c.args.at c.args.x
+returns c =
+    let a = c.args in
+    number-stored 2 a.at a.x a.s.now _ (c.copy_from_slice.ensures.after ∙ c.to_le_bytes.ensures ∙ low-first 2 a.x) c.requires

@@ -1,6 +1,9 @@
 -- `word::number::write32` meets its contract.
-use Rattle.word.specs.Laws.{sets-parts}
+use mathlib.Core.Path.{◌∙◌}
+use Rattle.word.specs.Laws.{low-first, number-stored}
 use Rattle.word.proofs.number.write32.Goals as goal
 
 pub returns : goal.returns
-returns c = let a = c.args in cc (sets-parts 2 2 a.s.now a.at a.x)
+returns c =
+    let a = c.args in
+    number-stored 4 a.at a.x a.s.now _ (c.copy_from_slice.ensures.after ∙ c.to_le_bytes.ensures ∙ low-first 4 a.x) c.requires

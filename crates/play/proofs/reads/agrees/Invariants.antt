@@ -1,9 +1,0 @@
--- `agrees` ends: i counts up to the number of keys.
-use Rattle.std.proofs.Common.{◌-◌, ◌≤◌}
-use Rattle.play.proofs.reads.agrees.Given as goal
-
-abbrev pub invariant-loop-i : goal.invariant-loop-i
-invariant-loop-i l = l.i ≤ 4
-
-abbrev pub decreases-loop-i : goal.decreases-loop-i
-decreases-loop-i l = 4 - l.i
