@@ -14,7 +14,7 @@ use segment::area::cut;
 use segment::layout::{digest_size, head_size};
 
 // Bytes of the entries of an undamaged segment in another edition: the bytes before a value are of another number. No more is read
-// of an entry than its kind; what has no length is the end.
+// of an entry than its kind; what has no length is the end. A `while`, since a turn goes on by an entry's length.
 fn entries_size(from: Edition, to: Edition, part: &[u8]) -> usize
     requires { (is_damaged (scan from part.now) ≡ false) × (length part.now ≤ 2048) }
     ensures { (result ≡ length (all_encoded to (entries_of from part.now))) × (result ≤ 4096) }

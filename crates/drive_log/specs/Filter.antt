@@ -131,6 +131,9 @@ pub record SlotFiltered (v : ℕ → View) (p : ℕ → Bool) (i n : ℕ) (r : B
   pub filtered : r ≡ false → Filtered (log_of v p n) (log_of v p (i + 1)) filter table
 
 module _ {v : ℕ → View} {p : ℕ → Bool} {i n : ℕ} (filter table : List ℕ) where
+  pub slot-shared : version_shared (log_of v p n) ≡ true → SlotFiltered v p i n true filter table
+  slot-shared h = record { shared = λ e. h; filtered = λ e. absurd (clash true refl e) }
+
   pub slot-filtered : Filtered (log_of v p n) (log_of v p (i + 1)) filter table → SlotFiltered v p i n false filter table
   slot-filtered h = record { shared = λ e. absurd (clash false e refl); filtered = λ e. h }
 

@@ -4,7 +4,7 @@ use Rattle.std.specs.Prelude.{◌≡◌, Bool, true, eqb, ltb, nat_lt, cond, ◌
 use Rattle.std.specs.Ordering.{is_lt, nat_cmp}
 use Rattle.std.specs.declared.cmp.Ordering.TheVariants.{Less, Equal, Greater}
 use Rattle.std.proofs.Math.Path.{refl, sym, ap, ap₂}
-use Rattle.std.proofs.Common.{◌∙◌, subst, add-one, arith, eqb-true}
+use Rattle.std.proofs.Common.{◌∙◌, subst, add-one, arith, eqb-true, eq-eqb, ne_eqb}
 use Rattle.std.proofs.Math.Bool.{false, not}
 use mathlib.Core.List.{List}
 use Rattle.std.proofs.Math.Option.{Option, none, some}
@@ -265,3 +265,27 @@ module _ (v : ℕ → View) (p : ℕ → Bool) where
   -- and after the second comes none
   pub after-second : (L : Layout) (n : ℕ) → L ≡ edition2 → false ≡ later_edition L v p n
   after-second L n is = sym (ap (λ (K : Layout). later_edition K v p n) is ∙ second-last n)
+
+pub same_first : (L : Layout) → same_layout edition1 L ≡ same_layout L edition1
+unfolding same_layout
+same_first First = refl
+same_first Second = refl
+
+pub same_second : (L : Layout) → same_layout edition2 L ≡ not (same_layout L edition1)
+unfolding same_layout
+same_second First = refl
+same_second Second = refl
+
+-- 1 where a slot's digest has the number k
+module _ (s : List ℕ) (t : Bool) (tested : t ≡ is_digest s) (k : ℕ) where
+  module _ (d : Digest) (its : d ≡ digest_of (layout_in s) s) (has : t ≡ true) where
+    own : digest_in s ≡ some d
+    own = some_in s t tested has ∙ ap some (sym its)
+
+    pub number_same : d.number.0 ≡ k → 1 ≡ has_number (digest_in s) k
+    unfolding has_number
+    number_same e = rw (own, pick_true {A = ℕ} (eqb d.number.0 k) 1 0 (eq-eqb d.number.0 k e))
+
+    pub number-other : (d.number.0 ≡ k → ⊥) → 0 ≡ has_number (digest_in s) k
+    unfolding has_number
+    number-other e = rw (own, pick-false {A = ℕ} (eqb d.number.0 k) 1 0 (ne_eqb d.number.0 k e))

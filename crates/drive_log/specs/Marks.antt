@@ -1,5 +1,5 @@
 -- Bits over an array of words: that one which is set stays set, and the marks of the suspects, which spare most entries the search.
-use Rattle.std.specs.Prelude.{ℕ, ◌+◌, ◌*◌, ◌/◌, ◌%◌, ◌<◌, ◌≡◌, refl, Bool, true, false, List, eqb, length, get_or, set}
+use Rattle.std.specs.Prelude.{ℕ, ◌+◌, ◌*◌, ◌/◌, ◌%◌, ◌<◌, ◌≤◌, ◌≡◌, refl, Bool, true, false, List, eqb, length, get_or, set}
 use Rattle.std.proofs.Common.{sym, ◌∙◌, ap, arith, length-set, get_or-set_same, get_or-set_other, eqb-true}
 use Rattle.std.proofs.lemmas.Bool.{eqb-false}
 use Rattle.slot_map.specs.Bit.{bit, named, with_bit}
@@ -103,3 +103,9 @@ unmarked marks table h v e = go (holds table v) refl
         let r = holds-found table v p in
         absurd (clash (has_mark marks v) (ap (has_mark marks) (sym r.2) ∙ h.marked r.0 r.1) e)
     go false p = sym p
+
+pub marked-none : (marks table : List ℕ) → length marks ≡ 64 → MarkedTo 0 marks table
+marked-none marks table size = record { size = size; marked = λ c l. absurd (omega arith) }
+
+pub marked-end : (i : ℕ) (marks table : List ℕ) → MarkedTo i marks table → length table ≤ i → Marked marks table
+marked-end i marks table h l = record { size = h.size; marked = λ c k. h.marked c (omega arith) }

@@ -8,7 +8,9 @@ use Rattle.std.proofs.Math.Decide.{dec_le}
 use Rattle.std.proofs.Math.Dec.{eqb}
 use borrow.Author.Tests.{eqb-true, ltb-true, ltb-false}
 use Rattle.std.specs.Ordering.{is_lt, nat_cmp}
+use Rattle.std.specs.Prelude as P
 use Rattle.drive_log.specs.Heads.{lt-tested}
+use Rattle.drive_log.specs.declared.Passed.{Passed}
 use Rattle.segment.specs.declared.Version.{Version}
 use Rattle.segment.specs.Choice.{pick}
 use Rattle.segment.proofs.Choice.{both-false-left, both-false-right}
@@ -21,7 +23,21 @@ use Rattle.laws.specs.Scans.{item_at}
 use Rattle.laws.specs.LogLaws.{placed_at, placed-append}
 use Rattle.laws.specs.Versions.{counted, count, count-shared, highest-append}
 use Rattle.drive_log.specs.Extents.{Meets, rest_of, rest-whole, rest-entry, rest_end, rest-damage, log-take, log-skip, sound-slot, damaged-slot}
-use Rattle.drive_log.specs.Filter.{is_marked, marked_with, mark-own, mark-keeps, count-more}
+use Rattle.drive_log.specs.Filter.{is_marked, marked_with, length_marked, mark-own, mark-keeps, count-more}
+
+-- What a walk answers for the log that it passed, none for damage: whether that is undamaged, its highest version, and whether its
+-- versions are apart.
+unfoldable pub is_sound : P.Option Passed → Bool
+is_sound P.None = false
+is_sound (P.Some p) = true
+
+unfoldable pub highest_in : P.Option Passed → ℕ
+highest_in P.None = 0
+highest_in (P.Some p) = p.highest.0
+
+unfoldable pub apart_in : P.Option Passed → Bool
+apart_in P.None = false
+apart_in (P.Some p) = p.apart
 
 -- What has been passed: its highest version, and, as long as the versions are apart, none stands twice and the bit of each is set.
 pub record Told (log : List Placed) (top : ℕ) (apart : Bool) (filter : List ℕ) : Type 0 where
@@ -42,6 +58,25 @@ pub record MarkedApart (filter : List ℕ) (w : ℕ) (apart still : Bool) (filte
   pub was : still ≡ true → apart ≡ true
   pub unset : still ≡ true → is_marked filter w ≡ false
   pub marked : still ≡ true → filter₁ ≡ marked_with filter w
+
+module _ (filter : List ℕ) (w : ℕ) (apart : Bool) (r : Bool) (was-set : r ≡ is_marked filter w) (filter₁ : List ℕ) (now-set : filter₁ ≡ marked_with filter w) where
+  pub apart-lost : MarkedApart filter w apart false filter₁
+  apart-lost =
+      record {
+        size = ap length now-set ∙ length_marked filter w;
+        was = λ q. absurd (clash false q refl);
+        unset = λ q. absurd (clash false q refl);
+        marked = λ q. absurd (clash false q refl);
+      }
+
+  pub apart-kept : r ≡ false → MarkedApart filter w apart apart filter₁
+  apart-kept e =
+      record {
+        size = ap length now-set ∙ length_marked filter w;
+        was = λ q. q;
+        unset = λ q. sym was-set ∙ e;
+        marked = λ q. now-set;
+      }
 
 -- one entry more
 module _ (log : List Placed) (x : Placed) (top : ℕ) (apart : Bool) (filter : List ℕ) (so_far : Told log top apart filter) where
@@ -176,7 +211,7 @@ module _ (L : Layout) (s : List ℕ) (top₀ : ℕ) (apart₀ : Bool) (filter₀
             so_far.splits ∙ ap (after so_far.items) (rest_end L s at e)
             ∙ ap (λ (l : List Item). scanned l at) (append-nil so_far.items)
 
-    pub telling-damage : entry_at L s at ≡ damage → PartTold L s top₀ apart₀ filter₀ false top apart filter
+    pub telling-damage : entry_at L s at ≡ damage → PartTold L s top₀ apart₀ filter₀ false 0 false filter
     unfolding after is_damaged
     telling-damage e =
         record {
@@ -216,48 +251,52 @@ pub record Surveyed (v : ℕ → View) (p : ℕ → Bool) (n : ℕ) (sound : Boo
   pub unshared : sound ≡ true → apart ≡ true → version_shared (log_of v p n) ≡ false
 
 -- The slots below i that p picks are undamaged, and this was told of them.
-pub record Surveying (v : ℕ → View) (p : ℕ → Bool) (i : ℕ) (sound : Bool) (top : ℕ) (apart : Bool) (filter : List ℕ) : Type 0 where
-  pub is-sound : sound ≡ true
+pub record Surveying (v : ℕ → View) (p : ℕ → Bool) (i : ℕ) (top : ℕ) (apart : Bool) (filter : List ℕ) : Type 0 where
   pub undamaged : log_damaged v p i ≡ false
   pub told : Told (log_of v p i) top apart filter
 
-pub survey-none : (v : ℕ → View) (p : ℕ → Bool) (filter : List ℕ) → length filter ≡ 512 → Surveying v p 0 true 0 true filter
+pub survey-none : (v : ℕ → View) (p : ℕ → Bool) (filter : List ℕ) → length filter ≡ 512 → Surveying v p 0 0 true filter
 unfolding log_damaged
-survey-none v p filter size = record { is-sound = refl; undamaged = refl; told = told_none v p filter size }
+survey-none v p filter size = record { undamaged = refl; told = told_none v p filter size }
 
-module _ (v : ℕ → View) (p : ℕ → Bool) (i : ℕ) (sound : Bool) (top : ℕ) (apart : Bool) (filter : List ℕ) (so_far : Surveying v p i sound top apart filter) where
-  pub survey-skip : p i ≡ false → Surveying v p (i + 1) sound top apart filter
+-- what is told of a slot, by the answer for it
+told-slot : (v : ℕ → View) (p : ℕ → Bool) (i : ℕ) (filter : List ℕ) → P.Option Passed → Type 0
+told-slot v p i filter r = SlotTold v p i (is_sound r) (highest_in r) (apart_in r) filter
+
+module _ (v : ℕ → View) (p : ℕ → Bool) (i : ℕ) (top : ℕ) (apart : Bool) (filter : List ℕ) (so_far : Surveying v p i top apart filter) where
+  pub survey-skip : p i ≡ false → Surveying v p (i + 1) top apart filter
   survey-skip q =
       record {
-        is-sound = so_far.is-sound;
         undamaged = sound-slot v p i (both-false-left (p i) (is_damaged (v i).scan) q) so_far.undamaged;
         told = subst (λ (l : List Placed). Told l top apart filter) (sym (log-skip v p i q)) so_far.told;
       }
 
-  pub survey-take : (sound₁ : Bool) (top₁ : ℕ) (apart₁ : Bool) (filter₁ : List ℕ) → SlotTold v p i sound₁ top₁ apart₁ filter₁ → sound₁ ≡ true
-      → Surveying v p (i + 1) sound₁ top₁ apart₁ filter₁
-  survey-take sound₁ top₁ apart₁ filter₁ h e =
+  pub survey-take : (r : P.Option Passed) (filter₁ : List ℕ) → SlotTold v p i (is_sound r) (highest_in r) (apart_in r) filter₁ → (q : Passed)
+      → r ≡ P.Some q → Surveying v p (i + 1) q.highest.0 q.apart filter₁
+  unfolding is_sound highest_in apart_in told-slot
+  survey-take r filter₁ h q e =
+      let t = subst (told-slot v p i filter₁) e h in
       record {
-        is-sound = e;
-        undamaged = sound-slot v p i (both-false-right (p i) (is_damaged (v i).scan) (h.undamaged e)) so_far.undamaged;
-        told = h.told e;
+        undamaged = sound-slot v p i (both-false-right (p i) (is_damaged (v i).scan) (t.undamaged refl)) so_far.undamaged;
+        told = t.told refl;
       }
 
-  pub survey-end : Surveyed v p i sound top apart
+  pub survey-end : Surveyed v p i true top apart
   survey-end =
       record {
-        damage = λ e. absurd (clash sound so_far.is-sound e);
+        damage = λ e. absurd (clash true refl e);
         undamaged = λ e. so_far.undamaged;
         highest-is = λ e. so_far.told.highest-is;
         unshared = λ e a. count-shared (log_of v p i) (so_far.told.once a);
       }
 
-pub survey-damaged : (v : ℕ → View) (p : ℕ → Bool) (i n : ℕ) → i < n → p i ≡ true → (sound : Bool) (top : ℕ) (apart : Bool) (filter : List ℕ)
-    → SlotTold v p i sound top apart filter → sound ≡ false → Surveyed v p n sound top apart
-survey-damaged v p i n h q sound top apart filter told e =
+pub survey-damaged : (v : ℕ → View) (p : ℕ → Bool) (i n : ℕ) → i < n → p i ≡ true → (r : P.Option Passed) (filter : List ℕ)
+    → SlotTold v p i (is_sound r) (highest_in r) (apart_in r) filter → r ≡ P.None → Surveyed v p n false 0 false
+unfolding is_sound highest_in apart_in
+survey-damaged v p i n h q r filter told e =
     record {
-      damage = λ f. damaged-slot v p i n h q (told.damage e);
-      undamaged = λ f. absurd (clash sound f e);
-      highest-is = λ f. absurd (clash sound f e);
-      unshared = λ f a. absurd (clash sound f e);
+      damage = λ f. damaged-slot v p i n h q (told.damage (ap is_sound e));
+      undamaged = λ f. absurd (clash false f refl);
+      highest-is = λ f. absurd (clash false f refl);
+      unshared = λ f a. absurd (clash false f refl);
     }

@@ -173,6 +173,12 @@ suspects-more log table h v stands more adds =
 -- ---- the look at the suspects, and the version put among them
 
 module _ (log : List Placed) (table : List ℕ) (h : Suspects log table) where
+  pub look_none : occupied table ≡ 0 → false ≡ ltb (occupied table) (hits table log)
+  look_none e = rw (e, h.none e)
+
+  pub look-some : (k d : ℕ) → k ≡ occupied table → d ≡ hits table log → ltb k d ≡ ltb (occupied table) (hits table log)
+  look-some k d p q = ap (λ (j : ℕ). ltb j d) p ∙ ap (ltb (occupied table)) q
+
   module _ (r : Bool) (told : r ≡ ltb (occupied table) (hits table log)) where
     pub look-shared : r ≡ true → version_shared log ≡ true
     look-shared e = h.shared (ltb-true (occupied table) (hits table log) (sym told ∙ e))
@@ -189,6 +195,25 @@ pub record Suspecting (log : List Placed) (table : List ℕ) (w : ℕ) (b r : Bo
   pub let_go : r ≡ false → (u : ℕ) → holds more u ≡ false → holds table u ≡ true → count u log ≤ 1
 
 module _ (log : List Placed) (table : List ℕ) (h : Suspects log table) (w : ℕ) where
+  -- the table stays
+  pub suspect-kept : (b : Bool) → (b ≡ true → holds table w ≡ true) → Suspecting log table w b false table
+  suspect-kept b f =
+      record {
+        shared = λ e. absurd (clash false e refl);
+        has = λ e. f;
+        suspects = λ e. h;
+        let_go = λ e u p q. absurd (clash (holds table u) q p);
+      }
+
+  pub suspect-told : (b : Bool) (more : List ℕ) → version_shared log ≡ true → Suspecting log table w b true more
+  suspect-told b more s =
+      record {
+        shared = λ e. s;
+        has = λ e. absurd (clash true refl e);
+        suspects = λ e. absurd (clash true refl e);
+        let_go = λ e. absurd (clash true refl e);
+      }
+
   module _ (stands : 1 ≤ count w log) where
     pub w-below : w < vacant
     w-below = let x = count-found w log stands in omega (arith, h.below x.0 x.1, x.2)
@@ -218,3 +243,8 @@ module _ (log : List Placed) (table : List ℕ) (h : Suspects log table) (w : �
           suspects = λ q. suspects-more log cleared (suspects-none log h.below cleared e) w stands more adds;
           let_go = λ q u p. alone u;
         }
+
+-- taken for one always is taken for one if b holds
+pub suspecting-if : (log : List Placed) (table : List ℕ) (w : ℕ) (b r : Bool) (more : List ℕ) → Suspecting log table w true r more → Suspecting log table w b r more
+suspecting-if log table w b r more h =
+    record { shared = h.shared; has = λ e q. h.has e refl; suspects = h.suspects; let_go = h.let_go }

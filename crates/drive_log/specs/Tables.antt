@@ -1,11 +1,11 @@
 -- A table of numbers in ascending order, its empty cells last: what it holds, the search by halves, and a number put in.
-use Rattle.std.specs.Prelude.{ℕ, zero, suc, ◌+◌, ◌≤◌, ◌<◌, ◌≡◌, Bool, true, false, List, [], ◌∷◌, eqb, ltb, length, get_or, set, drop, replicate}
+use Rattle.std.specs.Prelude.{ℕ, zero, suc, ◌+◌, ◌-◌, ◌*◌, ◌≤◌, ◌<◌, ◌≡◌, Bool, true, false, List, [], ◌∷◌, eqb, ltb, length, get_or, set, drop, replicate}
 use Rattle.std.specs.Int.{from_bool}
 use Rattle.std.proofs.Math.Path.{refl, ap}
 use Rattle.std.proofs.Common.{sym, ◌∙◌, arith, length-set, drop_of_length-le, get_or-set_same, get_or-set_other, drop-cons, add-one}
 use Rattle.std.proofs.Math.Decide.{dec_le}
 use Rattle.std.proofs.lemmas.List.{get_or-replicate}
-use borrow.Author.Tests.{eq-eqb, ne_eqb, eqb-true, eqb-false, lt-ltb, le-ltb, ltb-true}
+use borrow.Author.Tests.{eq-eqb, ne_eqb, eqb-true, eqb-false, lt-ltb, le-ltb, ltb-true, ltb-false}
 use Rattle.segment.specs.Choice.{pick}
 use Rattle.segment.proofs.Choice.{pick_true, pick-false}
 
@@ -134,6 +134,22 @@ vacant-occupied [] h = refl
 vacant-occupied (x ∷ xs) h =
     omega (arith, filled_none x (h 0 (omega arith)), vacant-occupied xs (λ c l. h (suc c) (omega arith)))
 
+-- the cells before i are empty
+abbrev pub ClearedTo : ℕ → List ℕ → Type 0
+ClearedTo i table = (c : ℕ) → c < i → get_or table c 0 ≡ vacant
+
+pub clear-turn : (i : ℕ) (table : List ℕ) → ClearedTo i table → i < length table → ClearedTo (i + 1) (set table i vacant)
+clear-turn i table h l c below = go (eqb c i) refl
+  where
+    go : (t : Bool) → eqb c i ≡ t → get_or (set table i vacant) c 0 ≡ vacant
+    go true e = ap (λ (k : ℕ). get_or (set table i vacant) k 0) (eqb-true c i e) ∙ get_or-set_same table i vacant 0 l
+    go false e =
+        let apart = eqb-false c i e in
+        get_or-set_other table i c vacant 0 apart ∙ h c (omega arith)
+
+pub clear-end : (i : ℕ) (table : List ℕ) → ClearedTo i table → length table ≡ 192 → length table ≤ i → Empty table
+clear-end i table h size l = record { size = size; cells = λ c k. h c (omega arith) }
+
 module _ (table : List ℕ) (h : Empty table) where
   pub empty-occupied : occupied table ≡ 0
   empty-occupied = vacant-occupied table (λ c l. h.cells c (omega (arith, h.size)))
@@ -168,9 +184,88 @@ pub between-all : (table : List ℕ) (x high : ℕ) → high ≡ length table �
 between-all table x high e =
     record { ordered = omega arith; within = omega arith; below = λ i h. absurd (omega arith); above = λ i l h. absurd (omega arith) }
 
+pub empty-between : (table : List ℕ) → Empty table → (x : ℕ) → x < vacant → Between table x 0 0
+empty-between table h x p =
+    record {
+      ordered = omega arith;
+      within = omega arith;
+      below = λ i l. absurd (omega arith);
+      above = λ i l k. omega (arith, h.cells i (omega (arith, h.size)));
+    }
+
+module _ (table : List ℕ) (sorted : Sorted table) (x low high : ℕ) (so_far : Between table x low high) (middle : ℕ) where
+  pub between-up : middle < high → get_or table middle 0 < x → Between table x (middle + 1) high
+  between-up m h =
+      record {
+        ordered = omega arith;
+        within = so_far.within;
+        below = λ i l. omega (arith, sorted.ascending i middle (omega arith) (omega (arith, so_far.within)));
+        above = so_far.above;
+      }
+
+  pub between-down : low ≤ middle → middle < high → x ≤ get_or table middle 0 → Between table x low middle
+  between-down l m h =
+      record {
+        ordered = l;
+        within = omega (arith, so_far.within);
+        below = so_far.below;
+        above = λ i a k. omega (arith, sorted.ascending middle i a k);
+      }
+
 -- What it means that r is low, or size cells further if these are below x: where keep more were in question, keep are left.
 pub record Halved (table : List ℕ) (x low size r : ℕ) : Type 0 where
   pub left : (keep high : ℕ) → size ≤ keep + 1 → high ≡ low + size + keep → Between table x low high → Between table x r (r + keep)
+
+module _ (size : ℕ) (t : Bool) (d : ℕ) (e : d ≡ pick t 1 0) where
+  pub times-one : size * d ≡ pick t size 0
+  times-one = go t e
+    where
+      once : size * 1 ≡ size
+      once = omega arith
+
+      never : size * 0 ≡ 0
+      never = omega arith
+
+      go : (t : Bool) → d ≡ pick t 1 0 → size * d ≡ pick t size 0
+      go true q = ap (λ (k : ℕ). size * k) (q ∙ pick_true true 1 0 refl) ∙ once ∙ sym (pick_true true size 0 refl)
+      go false q = ap (λ (k : ℕ). size * k) (q ∙ pick-false false 1 0 refl) ∙ never ∙ sym (pick-false false size 0 refl)
+
+  pub times-few : size * d ≤ size
+  times-few = go t times-one
+    where
+      go : (t : Bool) → size * d ≡ pick t size 0 → size * d ≤ size
+      go true q = omega (arith, q, pick_true {A = ℕ} true size 0 refl)
+      go false q = omega (arith, q, pick-false {A = ℕ} false size 0 refl)
+
+module _ (table : List ℕ) (sorted : Sorted table) (x low size : ℕ) (some : 0 < size) (inside : low + size ≤ 192) where
+  pub halves : (d : ℕ) → d ≡ pick (ltb (get_or table (low + size - 1) 0) x) 1 0 → Halved table x low size (low + size * d)
+  halves d e =
+      record { left = λ keep high h w b. go keep high h w b (ltb (get_or table (low + size - 1) 0) x) refl (times-one size (ltb (get_or table (low + size - 1) 0) x) d e) }
+    where
+      go : (keep high : ℕ) → size ≤ keep + 1 → high ≡ low + size + keep → Between table x low high → (t : Bool) → ltb (get_or table (low + size - 1) 0) x ≡ t → size * d ≡ pick t size 0
+          → Between table x (low + size * d) (low + size * d + keep)
+      go keep high h w b true q m =
+          let l = ltb-true (get_or table (low + size - 1) 0) x q in
+          let r : size * d ≡ size = m ∙ pick_true true size 0 refl in
+          record {
+            ordered = omega arith;
+            within = omega (arith, b.within);
+            below =
+                λ i k. omega (
+                  arith,
+                  sorted.ascending i (low + size - 1) (omega arith) (omega (arith, sorted.size)),
+                );
+            above = λ i k. b.above i (omega arith);
+          }
+      go keep high h w b false q m =
+          let l = ltb-false (get_or table (low + size - 1) 0) x q in
+          let r : size * d ≡ 0 = m ∙ pick-false false size 0 refl in
+          record {
+            ordered = omega arith;
+            within = omega (arith, b.within);
+            below = λ i k. b.below i (omega arith);
+            above = λ i k n. omega (arith, sorted.ascending (low + size - 1) i (omega arith) n);
+          }
 
 pub between_done : (table : List ℕ) (x r : ℕ) → Between table x r (r + 0) → Between table x r r
 between_done table x r b =

@@ -25,11 +25,10 @@ pub struct FoundHead {
     pub digest: Digest,
 }
 
-// What a walk of the log has passed: whether it was undamaged, its highest version, 0 where it is empty, and whether the filter
-// told all versions apart.
+// What a walk of an undamaged log has passed: its highest version, 0 where it is empty, and whether the filter told all versions
+// apart.
 #[derive(Clone, Copy)]
 pub struct Passed {
-    pub sound: bool,
     pub highest: Version,
     pub apart: bool,
 }

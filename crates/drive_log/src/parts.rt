@@ -2,7 +2,7 @@
 // constants, whose branches a processor can foresee.
 ghost use Rattle.std.specs.Prelude.{◌≡◌, length};
 ghost use Rattle.drive_log.specs.Editions.{edition_if};
-ghost use Rattle.drive_log.specs.Surveys.{MarkedApart, PartTold};
+ghost use Rattle.drive_log.specs.Surveys.{MarkedApart, PartTold, is_sound, highest_in, apart_in};
 
 use crate::Passed;
 use crate::editions::edition_if;
@@ -23,10 +23,10 @@ fn mark_apart(filter: &mut [u32], version: Version, apart: bool) -> bool
     apart
 }
 
-fn survey_as<const SECOND: bool>(part: &[u8], filter: &mut [u32], before: Passed) -> Passed
+fn survey_as<const SECOND: bool>(part: &[u8], filter: &mut [u32], before: Passed) -> Option<Passed>
     requires { length filter.old ≡ 512 }
-    ensures { PartTold (edition_if SECOND) part.now before.highest.0 before.apart filter.old result.sound result.highest.0 result.apart
-        filter.new }
+    ensures { PartTold (edition_if SECOND) part.now before.highest.0 before.apart filter.old (is_sound result) (highest_in result)
+        (apart_in result) filter.new }
 {
     let edition = edition_if(SECOND);
     let mut at = digest_size(edition);
@@ -41,27 +41,24 @@ fn survey_as<const SECOND: bool>(part: &[u8], filter: &mut [u32], before: Passed
                 apart = mark_apart(filter, version, apart);
             }
             Next::End => {
-                return Passed {
-                    sound: true,
-                    highest,
-                    apart,
-                };
+                return Some(Passed { highest, apart });
             }
             Next::Damage => {
-                return Passed {
-                    sound: false,
-                    highest,
-                    apart,
-                };
+                return None;
             }
         }
     }
 }
 
 // The entries of a segment, after those of the log before it.
-pub fn survey_part(edition: Edition, part: &[u8], filter: &mut [u32], before: Passed) -> Passed
+pub fn survey_part(
+    edition: Edition,
+    part: &[u8],
+    filter: &mut [u32],
+    before: Passed,
+) -> Option<Passed>
     requires { length filter.old ≡ 512 }
-    ensures { PartTold edition part.now before.highest.0 before.apart filter.old result.sound result.highest.0 result.apart
+    ensures { PartTold edition part.now before.highest.0 before.apart filter.old (is_sound result) (highest_in result) (apart_in result)
         filter.new }
 {
     match edition {

@@ -1,5 +1,6 @@
 -- 01, "The book of a list", for the two keys of the rig: what a history leaves once its letters have counted.
-use Rattle.std.specs.Prelude.{ℕ, ◌+◌, min, ◌≡◌, refl, Bool, true, false, not, eqb}
+use Rattle.std.specs.Prelude.{ℕ, ◌+◌, ◌≤◌, min, ◌≡◌, refl, Bool, true, false, not, eqb}
+use Rattle.std.proofs.Common.{arith, ne_eqb}
 use mir.Val.{bool_byte}
 use Rattle.segment.specs.Choice.{pick}
 use Rattle.segment.specs.declared.Key.{Key}
@@ -50,3 +51,19 @@ one-tested v = go (eqb v 0)
     go : (t : Bool) → bool_byte (not t) ≡ pick t 0 1
     go true = refl
     go false = refl
+
+pub one_none : (v : ℕ) → v ≡ 0 → 0 ≡ one_if v
+unfolding one_if pick
+one_none v e = rw e
+
+pub one-some : (v : ℕ) → (v ≡ 0 → ⊥) → 1 ≡ one_if v
+unfolding one_if pick
+one-some v h = rw (ne_eqb v 0 h)
+
+pub one-most : (v : ℕ) → one_if v ≤ 1
+unfolding one_if pick
+one-most v = go (eqb v 0)
+  where
+    go : (t : Bool) → pick t 0 1 ≤ 1
+    go true = omega arith
+    go false = omega arith

@@ -1,5 +1,5 @@
 -- Words by their numbers: the digits of a number to base 5 are the letters' numbers, the first letter's the highest.
-use Rattle.std.specs.Prelude.{ℕ, zero, suc, ◌+◌, ◌*◌, ◌/◌, ◌%◌, ◌^◌, ◌≤◌, ◌<◌, ◌≡◌, refl, Bool, true, false, List, [], ◌∷◌, ◌++◌, length, set}
+use Rattle.std.specs.Prelude.{ℕ, zero, suc, ◌+◌, ◌-◌, ◌*◌, ◌/◌, ◌%◌, ◌^◌, ◌≤◌, ◌<◌, ◌≡◌, refl, Bool, true, false, List, [], ◌∷◌, ◌++◌, length, set}
 use Rattle.std.proofs.Math.Path.{sym, ap}
 use Rattle.std.proofs.Common.{ap₂, ◌∙◌, subst, append_assoc, append-nil, add-zero, add_comm, mod-eq_of_lt, add_assoc, suc-add, zero-lt-suc, zero-add, add-one, arith, length-append}
 use Rattle.std.proofs.Math.Nat.{pow-succ', add-mul-mod_self_right, one-le-pow, add-mul-div_right, div-eq_of_lt, pow-le-pow_right}
@@ -20,6 +20,14 @@ word (suc k) n = letter_of (n / 5 ^ k) ∷ word k (n % 5 ^ k)
 unfoldable pub numbered : ℕ → ℕ → ℕ → List Word
 numbered k n zero = []
 numbered k n (suc m) = word k n ∷ numbered k (n + 1) m
+
+pub word_first : (k n : ℕ) → 0 < k → word k n ≡ letter_of (n / 5 ^ (k - 1)) ∷ word (k - 1) (n % 5 ^ (k - 1))
+unfolding word
+word_first zero n h = absurd (omega arith)
+word_first (suc k) n h = ap (λ (x : ℕ). letter_of (n / 5 ^ x) ∷ word x (n % 5 ^ x)) (before k)
+  where
+    before : (k : ℕ) → k ≡ suc k - 1
+    before k = omega arith
 
 -- the lines of the legal ones
 abbrev pub lines_from : ℕ → ℕ → ℕ → List ℕ

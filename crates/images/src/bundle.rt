@@ -75,7 +75,7 @@ pub fn item_end(bundle: &[u8], at: usize) -> usize
 }
 
 // The parts of an item; none where it lacks one.
-pub fn parts(bytes: &[u8]) -> Option<Item<'_>> {
+pub(crate) fn parts(bytes: &[u8]) -> Option<Item<'_>> {
     if bytes.len() < HEADER {
         return None;
     }

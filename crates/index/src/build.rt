@@ -20,8 +20,9 @@ fn clear(cells: &mut [u32])
     cells.fill(0);
 }
 
-// One entry more, with the number of keys so far: how many they are then, none where they are more than the index may hold. It does what `insert` does, and not by it: a function that is called from the steps
-// too would not be put in line here, and a recovery takes a fifth longer then.
+// One entry more, with the number of keys so far: how many they are then, none where they are more than the index may hold. It does
+// what `insert` does, and not by it: a function that is called from the steps too would not be put in line here, and a recovery takes
+// a fifth longer then.
 fn index_entry(
     area: &[u8],
     cells: &mut [u32],

@@ -82,7 +82,8 @@ pub fn kurdavel_recover(
 }
 
 // Both reads are made of the parts of `find`, on the words as they are: the record is tested and not copied, and the compiler puts the
-// search in line in both.
+// search in line in both. What is told of the answer, here and in the reads by scan, is three lines each time: a function for it would
+// have a contract longer than they are.
 pub fn kurdavel_read(
     words: &[u32],
     area: &[u8],

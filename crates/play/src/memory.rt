@@ -53,7 +53,7 @@ pub fn value_bytes(value: Value) -> [u8; LONGEST]
 // A recovery after the supply failed, which lost the index.
 pub fn power_on<R: Print>(out: &mut Output<'_, R>, lent: &mut Memory, book: Book) -> Played
     ensures on { result ≡ powered_on lent.new.area book }
-    ensures kept { lent.new.area ≡ lent.old.area }
+    ensures kept { (lent.new.area ≡ lent.old.area) × (lent.new.work ≡ lent.old.work) }
 {
     lent.index = SPOILT;
     let recovery = recover(
@@ -76,7 +76,8 @@ pub fn power_on<R: Print>(out: &mut Output<'_, R>, lent: &mut Memory, book: Book
 
 // An area of old bytes, formatted and recovered. The contract leaves free what the area then holds.
 pub fn fresh<R: Print>(out: &mut Output<'_, R>, lent: &mut Memory) -> Played
-    ensures { result ≡ powered_on lent.new.area (empty_book (record { 0 = 1 })) }
+    ensures on { result ≡ powered_on lent.new.area (empty_book (record { 0 = 1 })) }
+    ensures kept { lent.new.work ≡ lent.old.work }
 {
     lent.area = [0xaa; 1024];
     // Nothing refuses a format of these lengths.
@@ -88,7 +89,8 @@ pub fn fresh<R: Print>(out: &mut Output<'_, R>, lent: &mut Memory) -> Played
 // Case 8: an old object of a key in slot 0, a newer one and its tombstone in the head, slot 1. The contract leaves free what
 // the area then holds.
 pub fn spread<R: Print>(out: &mut Output<'_, R>, lent: &mut Memory) -> Played
-    ensures { result ≡ powered_on lent.new.area (empty_book (record { 0 = 4 })) }
+    ensures on { result ≡ powered_on lent.new.area (empty_book (record { 0 = 4 })) }
+    ensures kept { lent.new.work ≡ lent.old.work }
 {
     lent.area = [0xff; 1024];
     copy_into(

@@ -67,7 +67,7 @@ fn step_agrees(
     if !told(answer, left, version) {
         return false;
     }
-    reads::both_agree(rec, lent, book_at(left, due))
+    reads::both_agree(rec, &lent.area, &lent.index, book_at(left, due))
 }
 
 // The first store that differs: the one noted before, or this one.
@@ -153,7 +153,7 @@ fn refused<R: Print>(
         out,
         b": refused ",
         number,
-        reads::both_agree(rec, lent, book),
+        reads::both_agree(rec, &lent.area, &lent.index, book),
     );
     Played {
         rec,

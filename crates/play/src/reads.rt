@@ -4,7 +4,6 @@ ghost use Rattle.play.specs.Answers.{read_says};
 ghost use Rattle.play.specs.Values.{bytes_are};
 
 use crate::book::{Book, Held, Value};
-use crate::memory::Memory;
 use crate::{book, memory};
 use record::{Present, Record, Refusal};
 use segment::Edition;
@@ -90,9 +89,9 @@ fn cut_agrees(area: &[u8], book: Book) -> bool {
 }
 
 // Whether the reads with the record as it is, and those after a cut, are the book's.
-pub fn both_agree(rec: Record, lent: &Memory, book: Book) -> bool {
-    if !agrees(rec, &lent.area, &lent.index, book) {
+pub fn both_agree(rec: Record, area: &[u8], index: &[u32], book: Book) -> bool {
+    if !agrees(rec, area, index, book) {
         return false;
     }
-    cut_agrees(&lent.area, book)
+    cut_agrees(area, book)
 }

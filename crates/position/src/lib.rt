@@ -3,10 +3,9 @@
 // nothing, and what it leaves undefined is tested away on the bits before.
 #![tactic(auto)]
 
-ghost use Rattle.std.specs.Prelude.{◌≡◌, true, [], ◌≤◌, ◌%◌, eqb, length};
-ghost use Rattle.std.proofs.Math.Option.{none, some};
+ghost use Rattle.std.specs.Prelude.{◌≡◌, true, ◌≤◌, ◌%◌, eqb, length};
 ghost use Rattle.position.specs.Float.{units_of, units_of_one, is_count, count_in, is_held, float_of};
-ghost use Rattle.position.specs.Convert.{with_position, outcome, from_float, to_float, ConversionCrossed};
+ghost use Rattle.position.specs.Convert.{with_position, from_float, to_float, ConversionCrossed};
 
 use record::{Refusal, number};
 use word::number::read32;

@@ -151,10 +151,9 @@ fn look_through(
     if editions_bad(single, edition, n, s, area, map) {
         return Err(Refusal::MixedEditions);
     }
-    let passed = survey(n, s, area, map);
-    if !passed.sound {
+    let Some(passed) = survey(n, s, area, map) else {
         return Err(Refusal::DamagedLog);
-    }
+    };
     if version_shared(n, s, area, map, passed.apart) {
         return Err(Refusal::SharedVersion);
     }

@@ -11,6 +11,9 @@ pub number-room : (most n : ℕ) → 0 < most → n < 10 ^ most → length (digi
 number-room zero n h l = absurd (omega arith)
 number-room (suc k) n h l = digits-length k n l
 
+pub version-room : (n : ℕ) → n < 2 ^ 64 → length (digits n) ≤ 20
+version-room n h = digits-length 19 n (omega arith)
+
 -- a number whose digits take no more than so many bytes, and a word
 pub field-within : {out out₁ out₂ : List ℕ} {at e₁ e₂ room : ℕ} {word : List ℕ} (n : ℕ) → length (digits n) ≤ room → Put out out₁ at e₁ (digits n)
     → Put out₁ out₂ e₁ e₂ word → PutWithin out out₂ at e₂ (field n word) (room + length word)

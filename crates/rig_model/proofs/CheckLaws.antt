@@ -196,6 +196,10 @@ module _ (area : List ℕ) (r : Record) (recovers : recovered r.edition 4 256 16
         go true e = e
         go false e = absurd (true≢false (sym (u.damage e) ∙ undamaged))
 
+    -- damage is told of no such log
+    pub next-damaged : (n : ℕ) → sound ≡ false → n ≡ next_of true (log_now area r) r
+    next-damaged n e = absurd (true≢false (sym is-sound ∙ e))
+
     top-is : top ≡ highest (log_now area r)
     top-is =
         u.highest-is is-sound

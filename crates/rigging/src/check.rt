@@ -18,7 +18,7 @@ use segment::Key;
 use segment::layout::version_limit;
 use store::{read, read_value, recover};
 
-pub fn all_tables() -> Tables
+pub(crate) fn all_tables() -> Tables
     ensures { result ≡ all_tables }
 {
     Tables {
@@ -62,7 +62,9 @@ fn next_of(rec: Record, area: &[u8], faulty: bool) -> u64
     if !faulty {
         return next.0;
     }
-    let passed = survey(4, 256, area, rec.map);
+    let Some(passed) = survey(4, 256, area, rec.map) else {
+        return next.0;
+    };
     let highest = passed.highest;
     highest.0.saturating_add(1).min(version_limit(rec.edition))
 }

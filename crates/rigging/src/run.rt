@@ -10,7 +10,7 @@ ghost use Rattle.rig_model.specs.PlayLaws.{Plays};
 use crate::check::{all_tables, recovers_wrongly};
 use histories::book::Book;
 use histories::{Letter, WordNumber, book};
-use record::{Record, Start, Tables};
+use record::{Record, Start};
 use segment::Key;
 use store::{clean, delete, format, recover, step, write};
 

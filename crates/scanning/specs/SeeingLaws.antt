@@ -9,7 +9,7 @@ use mathlib.Core.List.Memᴰ
 use mathlib.Core.List.{List, [], ◌∷◌, ◌++◌, append-nil}
 use Rattle.std.proofs.Math.Option.{Option, none, some}
 use native.Mathlib.Omega.{arith}
-use borrow.Author.Tests.{ltb-true, ltb-false, lt-ltb, ne_eqb}
+use borrow.Author.Tests.{ltb-true, ltb-false, lt-ltb, eq-eqb, ne_eqb}
 use Rattle.word.specs.Number.{number_of}
 use Rattle.segment.specs.Choice.{pick, both}
 use Rattle.segment.proofs.Choice.{pick_true, pick-false, both-false-right}
@@ -45,6 +45,14 @@ and-both false y = refl
 pub key-test : (a b : Key) {t u : Bool} → t ≡ not (eqb a.table b.table && eqb a.key b.key) → t ≡ u → same_keys a b ≡ not u
 unfolding same_keys
 key-test a b e h = sym (and-both _ _) ∙ sym (not-not _) ∙ ap not (sym e ∙ h)
+
+pub same-table : (a b : Key) → a.table ≡ b.table → eqb a.key b.key ≡ same_keys a b
+unfolding same_keys both
+same-table a b e = rw (eq-eqb a.table b.table e) refl
+
+pub other-table : (a b : Key) → (a.table ≡ b.table → ⊥) → eqb a.table b.table ≡ same_keys a b
+unfolding same_keys both
+other-table a b e = rw (ne_eqb a.table b.table e) refl
 
 -- ---- whether a version is above another, by the code's test
 

@@ -34,7 +34,7 @@ fn see(seen: Seen, key: Key, header: Header, place: usize) -> Seen
 }
 
 // The first entry from an offset of an undamaged segment on whose key may be a key, or the end: no more is read of one that has
-// another key's last four bytes.
+// another key's last four bytes. A `while`, since a turn goes on by an entry's length.
 fn skip_others(edition: Edition, part: &[u8], start: usize, key: Key) -> usize
     requires { is_damaged (rest_of edition part.now start) ≡ false }
     ensures { Skipped edition part.now key start result }

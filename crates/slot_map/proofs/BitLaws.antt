@@ -1,13 +1,13 @@
 -- Laws of a slot's bit. Each goes by the lowest bit, `m % 2`, and the map of the bits above it, `m / 2`.
 use Rattle.std.specs.Prelude.{◌≡◌, refl, ◌≢◌, ◌⊎◌, ℕ, zero, suc, ◌+◌, ◌-◌, ◌*◌, ◌/◌, ◌%◌, ◌^◌, ◌≤◌, ◌<◌, min, max, true, false}
-use Rattle.std.proofs.Common.{sym, ap, ap₂, ◌∙◌, inl, inr, div-one, lt_of_lt_of_le, mul_assoc, pow-suc, one-add, arith, eqb-true, eq-eqb, ne_eqb, pow_pos, pow_mono, shr-shr}
+use Rattle.std.proofs.Common.{sym, ap, ap₂, ◌∙◌, inl, inr, div-one, lt_of_lt_of_le, mul_assoc, pow-suc, one-add, arith, ltb-true, ltb-false, eqb-true, eq-eqb, ne_eqb, pow_pos, pow_mono, shr-shr}
 use Rattle.std.proofs.Math.Nat.{div-eq_of_lt, min-eq_left}
 use Rattle.std.proofs.Math.Decide.{dec_lt, ℕ_discrete}
 use Rattle.std.proofs.lemmas.Bool.{eqb-false}
 use Rattle.std.proofs.Math.Arith.{bin_ind}
 use Rattle.std.specs.Int.Bits.{bit_and, bit_or, and_step, or_step}
 use Rattle.std.proofs.lemmas.Nat.{and_le_l, and_le_r, and_comm}
-use Rattle.slot_map.specs.Bit.{bit, named, with_bit, less, within}
+use Rattle.slot_map.specs.Bit.{bit, named, names_below, with_bit, less, within}
 
 -- ---- one bit
 
@@ -178,6 +178,12 @@ pub below-of-bits : (m n : ℕ) → ((i : ℕ) → n ≤ i → bit m i ≡ 0) �
 below-of-bits m zero h = let e : m ≡ 0 = no_bits m (λ i. h i (omega arith)) in omega arith
 below-of-bits m (suc n) h =
     below-of-half m n (below-of-bits (m / 2) n (λ i l. sym (bit-suc m i) ∙ h (suc i) (omega arith)))
+
+pub below_true : (n m : ℕ) → names_below n m ≡ true → m < 2 ^ n
+below_true n m h = ltb-true m (2 ^ n) h
+
+pub below_false : (n m : ℕ) → names_below n m ≡ false → 2 ^ n ≤ m
+below_false n m h = ltb-false m (2 ^ n) h
 
 -- maps below 2 ^ n that name the same slots below n are equal
 pub same_bits : (n a b : ℕ) → a < 2 ^ n → b < 2 ^ n → ((i : ℕ) → i < n → bit a i ≡ bit b i) → a ≡ b

@@ -1,7 +1,7 @@
 // The readers of a segment of edition 1 over the worked bytes of 01, "Values to hold it to", and over bytes that are no entry.
 use segment::layout::digest_size;
 use segment::reader::{digest, read};
-use segment::{Digest, Edition, Key, Read, Version};
+use segment::{Edition, Key, Read, Version};
 use std::io;
 
 fn digest_line(rt: &impl Print, s: &[u8]) -> io::Result<()> {

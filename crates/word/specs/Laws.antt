@@ -222,6 +222,10 @@ number-stored w at x s t e fits =
 
 -- ---- bytes stored one after the other
 
+-- what the stores of the code leave
+pub sets-two : (s : List ℕ) (at x : ℕ) → set (set s at (x % 256)) (at + 1) (x / 256 % 256) ≡ sets s at (bytes_of 2 x)
+sets-two s at x = rw (bytes_of-two, add-one)
+
 pub sets-append : (s : List ℕ) (at : ℕ) (a b : List ℕ) → sets s at (a ++ b) ≡ sets (sets s at a) (at + length a) b
 sets-append s at [] b = rw (add-zero at)
 sets-append s at (x ∷ a) b = sets-append (set s at x) (suc at) a b ∙ rw (suc-add, add-suc)
@@ -248,6 +252,15 @@ wrapped-lt x y = mod-lt (x * y) (lit< tt)
 pub fnv_step-lt : (h b : ℕ) → fnv_step h b < 4294967296
 unfolding fnv_step
 fnv_step-lt h b = wrapped-lt (bit_xor h b) 16777619
+
+-- the same by two bytes at a time, for code that makes them one by one
+pub fnv_from-two : (h x : ℕ) → fnv_from h (bytes_of 2 x) ≡ fnv_step (fnv_step h (x % 256)) (x / 256 % 256)
+unfolding fnv_from
+fnv_from-two h x = rw (bytes_of-two x)
+
+pub key_hash-halves : (table key : ℕ)
+    → key_hash table key ≡ fnv_from (fnv_from (fnv_from 2166136261 (bytes_of 2 table)) (bytes_of 2 (key % 65536))) (bytes_of 2 (key / 65536))
+key_hash-halves table key = simp (bytes_of-parts 2 2 key, fnv_from-append)
 
 pub fnv_from-lt : (h : ℕ) (s : List ℕ) → h < 4294967296 → fnv_from h s < 4294967296
 unfolding fnv_from

@@ -51,6 +51,10 @@ copied-counts w cs h e =
     let l : length (counts_in w) ≡ 32 = length-take-le 32 (drop 17 w) (omega (arith, length-drop 17 w)) in
     e ∙ sets-eq (counts_in w) (replicate 32 0) 0 (omega arith) ∙ rw l (append-nil (counts_in w))
 
+-- in each arm the operation is known
+pub known-pending : (w w' : List ℕ) {p q : Pending} → p ≡ q → w' ≡ sets w 12 (pending_words q) → w' ≡ sets w 12 (pending_words p)
+known-pending w w' e f = f ∙ ap (λ (x : Pending). sets w 12 (pending_words x)) (sym e)
+
 pub zeros-on : (a b : ℕ) → a ≡ 0 → eqb b 0 ≡ zeros a b
 unfolding zeros both
 zeros-on a b e = rw (eq-eqb a 0 e)
@@ -113,6 +117,14 @@ pub switch-from : (t : Bool) → from_bool t ≡ switch_number t
 unfolding switch_number pick
 switch-from true = refl
 switch-from false = refl
+
+pub switch-on : (t : Bool) → t ≡ true → 1 ≡ switch_number t
+unfolding switch_number pick
+switch-on t e = rw e
+
+pub switch-off : (t : Bool) → t ≡ false → 0 ≡ switch_number t
+unfolding switch_number pick
+switch-off t e = rw e
 
 -- the word is had back from the switch, and the switch from its word
 switch-number : (s : ℕ) → switch_fits s ≡ true → switch_number (switch_of s) ≡ s

@@ -3,7 +3,7 @@ use native.Mathlib.Omega.{arith}
 use Rattle.segment.proofs.EntriesLaws.{next-end, next-damage}
 use Rattle.segment.specs.declared.Version.{Version}
 use Rattle.drive_log.specs.Extents.{Meets, meets}
-use Rattle.drive_log.specs.Surveys.{telling-start, telling-turn, telling-end, telling-damage, higher_is}
+use Rattle.drive_log.specs.Surveys.{is_sound, highest_in, apart_in, telling-start, telling-turn, telling-end, telling-damage, higher_is}
 use Rattle.drive_log.proofs.parts.survey_as.Given as given
 use Rattle.drive_log.proofs.parts.survey_as.Goals as goal
 use Rattle.drive_log.proofs.parts.survey_as.Goals.{In-Entry}
@@ -27,7 +27,9 @@ loop-header-preserved g c =
     telling-turn _ _ _ _ _ _ _ _ _ c.loop-header.invariant (met g (goal.at.loop-header-preserved g c).In-Entry) _ (ap (λ (w : Version). w.0) c.max-highest.ensures ∙ higher_is _ _) _ _ c.mark_apart-apart.ensures
 
 pub returns-in-End : goal.returns-in-End
+unfolding is_sound highest_in apart_in
 returns-in-End g c = rw (← c.edition_if-edition.ensures) (telling-end _ _ _ _ _ _ _ _ _ c.loop-header.invariant (next-end _ _ _ _ c.next.ensures c.in-End.is))
 
 pub returns-in-Damage : goal.returns-in-Damage
+unfolding is_sound highest_in apart_in
 returns-in-Damage g c = rw (← c.edition_if-edition.ensures) (telling-damage _ _ _ _ _ _ _ _ _ c.loop-header.invariant (next-damage _ _ _ _ c.next.ensures c.in-Damage.is))

@@ -5,4 +5,4 @@ use Rattle.drive_log.specs.Surveys.{Surveying}
 use Rattle.drive_log.proofs.survey.survey.Given as goal
 
 abbrev pub invariant-loop-slot : goal.invariant-loop-slot
-invariant-loop-slot l = Surveying (views_of l.area l.s) (named l.map) l.slot l.passed.sound l.passed.highest.0 l.passed.apart l.filter
+invariant-loop-slot l = Surveying (views_of l.area l.s) (named l.map) l.slot l.passed.highest.0 l.passed.apart l.filter
