@@ -5,12 +5,13 @@ ghost use Rattle.cleaning.specs.Filter.{spread, filter_has, filter_with};
 
 use crate::marks::{is_marked, mark};
 use segment::Key;
+use word::fnv::wrapping_mul;
 
 // The upper 12 bits of a product with the key.
 fn spread(key: Key) -> usize
     ensures { result ≡ spread key }
 {
-    ((key.key ^ u32::from(key.table) * 65536).wrapping_mul(2654435761) / 1048576) as usize
+    (wrapping_mul(key.key ^ u32::from(key.table) * 65536, 2654435761) / 1048576) as usize
 }
 
 // Puts a key into a filter.

@@ -17,7 +17,7 @@ pub fn wrapping_mul(x: u32, y: u32) -> u32
 fn step(h: u32, b: u8) -> u32
     ensures { result ≡ fnv_step h b }
 {
-    (h ^ u32::from(b)).wrapping_mul(PRIME)
+    wrapping_mul(h ^ u32::from(b), PRIME)
 }
 
 // The bytes of a slice taken into a hash.
