@@ -4,12 +4,13 @@ use Rattle.segment.specs.Choice.{pick, both}
 use Rattle.word.specs.Number.{bytes_of, number_of}
 use Rattle.model.specs.Table.{Row, row, same, failing, Hold}
 use Rattle.model.proofs.Table.{rows-hold}
+use Rattle.position.specs.declared.Conversion.{Conversion}
 use Rattle.position.specs.Float.{is_count, count_in, is_held, float_of}
-use Rattle.position.specs.Convert.{position_in, conversion, Conversion, from_float, to_float, answer_said, bytes_left}
+use Rattle.position.specs.Convert.{position_in, conversion, from_float, to_float, answer_said}
 
 -- what a conversion says, and its eight bytes
 abbrev told : Conversion → List ℕ
-told r = answer_said r ∷ bytes_left r
+told r = answer_said r.answer ∷ r.value
 
 -- a value with this position and the free bytes 9, 8, 7, 6
 abbrev at : ℕ → List ℕ
@@ -18,7 +19,7 @@ at n = bytes_of 4 n ++ 9 ∷ 8 ∷ 7 ∷ 6 ∷ []
 -- of each position in turn what the conversion says, and the position that it gives
 abbrev each : (List ℕ → Conversion) → List ℕ → List ℕ
 each f [] = []
-each f (n ∷ ns) = answer_said (f (at n)) ∷ position_in (bytes_left (f (at n))) ∷ each f ns
+each f (n ∷ ns) = answer_said (f (at n)).answer ∷ position_in (f (at n)).value ∷ each f ns
 
 abbrev rows : List Row
 rows =
@@ -45,7 +46,7 @@ rows =
     ∷ []
 
 computed : failing rows ≡ []
-unfolding failing same pick both conversion answer_said bytes_left bytes_of number_of is_count count_in is_held float_of
+unfolding failing same pick both conversion answer_said bytes_of number_of is_count count_in is_held float_of
 computed = refl
 
 pub position-cases-hold : Hold rows

@@ -1,11 +1,13 @@
 -- 02, R-10: the two conversions of a value of eight bytes, of which the first four are the position and the others stay.
-use Rattle.std.specs.Prelude.{ℕ, Result, Ok, Err, Bool, not, List, [], ◌∷◌, ◌++◌, ◌≡◌, eqb, length, take, drop}
+use Rattle.std.specs.Prelude.{ℕ, Ok, Err, Bool, not, List, [], ◌∷◌, ◌++◌, ◌≡◌, eqb, length, take, drop}
 use Rattle.std.proofs.Math.Option.{Option, none, some}
 use Rattle.word.specs.Number.{number_of, bytes_of}
 use Rattle.record.specs.declared.Refusal.{Refusal}
 use Rattle.record.specs.declared.Refusal.TheVariants.{ValueLength, NotWhole, CountLost}
 use Rattle.record.specs.Refusals.{number_of_refusal}
 use Rattle.model.specs.Causes.{Cause, when, first_cause}
+use Rattle.record.specs.Answered.{Check}
+use Rattle.position.specs.declared.Conversion.{Conversion}
 use Rattle.position.specs.Float.{is_count, count_in, is_held, float_of}
 
 -- the number of its first four bytes, in the log's byte order
@@ -24,13 +26,9 @@ conversion_causes good cause v = when (not (eqb (length v) 8)) ValueLength ∷ w
 abbrev pub no_bytes : List ℕ
 no_bytes = 0 ∷ 0 ∷ 0 ∷ 0 ∷ 0 ∷ 0 ∷ 0 ∷ 0 ∷ []
 
--- the converted value, or the cause that refuses it
-abbrev pub Conversion : Type 0
-Conversion = Result (List ℕ) Refusal
-
 unfoldable pub outcome : Option Refusal → List ℕ → Conversion
-outcome none v = Ok v
-outcome (some r) v = Err r
+outcome none v = record { answer = Ok tt; value = v }
+outcome (some r) v = record { answer = Err r; value = no_bytes }
 
 unfoldable pub conversion : (ℕ → Bool) → Refusal → (ℕ → ℕ) → List ℕ → Conversion
 unfolding outcome first_cause
@@ -42,17 +40,12 @@ from_float = conversion is_count NotWhole count_in
 abbrev pub to_float : List ℕ → Conversion
 to_float = conversion is_held CountLost float_of
 
--- what it says in 01's numbers, 0 where it is accepted
-unfoldable pub answer_said : Conversion → ℕ
-answer_said (Ok v) = 0
+-- what an answer says in 01's numbers: 0 for an accepted conversion
+unfoldable pub answer_said : Check → ℕ
+answer_said (Ok u) = 0
 answer_said (Err r) = number_of_refusal r
-
--- the eight bytes that it leaves
-unfoldable pub bytes_left : Conversion → List ℕ
-bytes_left (Ok v) = v
-bytes_left (Err r) = no_bytes
 
 -- What an exported call answers and leaves in the eight bytes that it is lent.
 pub record ConversionCrossed (made : Conversion) (after : List ℕ) (r : ℕ) : Type 0 where
-  pub says : r ≡ answer_said made
-  pub bytes : after ≡ bytes_left made
+  pub says : r ≡ answer_said made.answer
+  pub bytes : after ≡ made.value

@@ -1,5 +1,5 @@
 -- Laws of the conversions, and that each accepted one, taken back, gives the same eight bytes.
-use Rattle.std.specs.Prelude.{ℕ, ◌≤◌, ◌<◌, Bool, not, length, drop, get_or, Ok, Err}
+use Rattle.std.specs.Prelude.{ℕ, ◌≤◌, ◌<◌, Bool, not, length, drop, get_or, Ok}
 use Rattle.std.proofs.Math.Path.{◌≡◌, refl, sym, ap}
 use Rattle.std.proofs.Common.{◌∙◌, lt_of_le_of_lt, arith, eq-eqb, ne_eqb, eqb-true, lit<, length-append, length-drop, drop_of_length-le, take-append-drop, drop-cons}
 use Rattle.std.proofs.Math.Bool.{true, false}
@@ -12,9 +12,10 @@ use Rattle.word.specs.Laws.{length-bytes_of, number-front, drop-front, bytes-at}
 use Rattle.record.specs.declared.Refusal.{Refusal}
 use Rattle.record.specs.declared.Refusal.TheVariants.{ValueLength, NotWhole, CountLost}
 use Rattle.model.specs.Causes.{first_cause}
+use Rattle.position.specs.declared.Conversion.{Conversion}
 use Rattle.position.specs.Float.{sign_of, is_count, count_in, is_held, float_of}
 use Rattle.position.specs.FloatLaws.{count-holds, holds-count, float-holds, holds-float}
-use Rattle.position.specs.Convert.{position_in, with_position, Conversion, outcome, conversion, from_float, to_float}
+use Rattle.position.specs.Convert.{position_in, with_position, outcome, conversion, from_float, to_float}
 
 -- ---- a conversion by its tests: of the length, and of the position
 
@@ -33,12 +34,12 @@ module _ (good : ℕ → Bool) (cause : Refusal) (other : ℕ → ℕ) (v : List
     told-made e = rw (eq-eqb (length v) 8 h, ← at, e)
 
   -- an accepted conversion passed both tests
-  pub accepted : {w : List ℕ} → conversion good cause other v ≡ Ok w → (length v ≡ 8) × (good (position_in v) ≡ true)
+  pub accepted : (conversion good cause other v).answer ≡ Ok tt → (length v ≡ 8) × (good (position_in v) ≡ true)
   unfolding conversion outcome first_cause pick
-  accepted {w = w} e = go (eqb (length v) 8) refl (good (position_in v)) refl e
+  accepted e = go (eqb (length v) 8) refl (good (position_in v)) refl e
     where
       go : (t : Bool) → eqb (length v) 8 ≡ t → (u : Bool) → good (position_in v) ≡ u
-          → outcome (pick (not t) (some ValueLength) (pick (not u) (some cause) none)) (with_position (other (position_in v)) v) ≡ Ok w
+          → (outcome (pick (not t) (some ValueLength) (pick (not u) (some cause) none)) (with_position (other (position_in v)) v)).answer ≡ Ok tt
           → (length v ≡ 8) × (good (position_in v) ≡ true)
       go true p true q e = (eqb-true (length v) 8 p, q)
       go true p false q e = let z : ◌≡◌ {A = ℕ} 0 1 = cc in absurd (omega arith)
@@ -64,14 +65,6 @@ position-with n v h = number-front 4 n (drop 4 v) h
 with-own : (n : ℕ) (v : List ℕ) → Bytes v → length v ≡ 8 → with_position (position_in v) (with_position n v) ≡ v
 with-own n v y h = rw (drop-front 4 n (drop 4 v), bytes-at 4 0 v y (omega arith)) (take-append-drop 4 v)
 
--- what two accepted answers that are one tell
-ok-same : {w x : List ℕ} → ◌≡◌ {A = Conversion} (Ok w) (Ok x) → w ≡ x
-ok-same {w = w} e = ap value e
-  where
-    value : Conversion → List ℕ
-    value (Ok v) = v
-    value (Err r) = w
-
 -- One conversion undoes another if it does so at every position that the other accepts.
 pub record Undoes (good : ℕ → Bool) (other : ℕ → ℕ) (good' : ℕ → Bool) (other' : ℕ → ℕ) (n : ℕ) : Type 0 where
   pub small : other n < 4294967296
@@ -79,20 +72,20 @@ pub record Undoes (good : ℕ → Bool) (other : ℕ → ℕ) (good' : ℕ → B
   pub same : other' (other n) ≡ n
 
 module _ (good : ℕ → Bool) (cause : Refusal) (other : ℕ → ℕ) (good' : ℕ → Bool) (cause' : Refusal) (other' : ℕ → ℕ) where
-  taken_back : ((n : ℕ) → good n ≡ true → Undoes good other good' other' n) → (v : List ℕ) → Bytes v → {x : List ℕ}
-      → conversion good cause other v ≡ Ok x → conversion good' cause' other' x ≡ Ok v
+  taken_back : ((n : ℕ) → good n ≡ true → Undoes good other good' other' n) → (v : List ℕ) → Bytes v → (conversion good cause other v).answer ≡ Ok tt
+      → conversion good' cause' other' (conversion good cause other v).value ≡ record { answer = Ok tt; value = v }
   unfolding outcome
-  taken_back undoes v y {x = x} e =
+  taken_back undoes v y e =
       let n = position_in v in
       let w = with_position (other n) v in
       let t = accepted good cause other v e in
       let u = undoes n t.1 in
-      ap (conversion good' cause' other') (sym (ok-same (told-made good cause other v n refl t.0 t.1 ∙ e)))
+      ap (λ (x : Conversion). conversion good' cause' other' x.value) (sym (told-made good cause other v n refl t.0 t.1))
       ∙ sym (told-made good' cause' other' w (other n) (sym (position-with (other n) v u.small)) (length-with (other n) v t.0) u.taken)
       ∙ ap (λ (x : List ℕ). outcome none x) (ap (λ (m : ℕ). with_position m w) u.same ∙ with-own (other n) v y t.0)
 
 -- Each accepted conversion, taken back, is accepted and gives the same eight bytes.
-pub from-float-back : (v : List ℕ) → Bytes v → {w : List ℕ} → from_float v ≡ Ok w → to_float w ≡ Ok v
+pub from-float-back : (v : List ℕ) → Bytes v → (from_float v).answer ≡ Ok tt → to_float (from_float v).value ≡ record { answer = Ok tt; value = v }
 from-float-back =
     taken_back is_count NotWhole count_in is_held CountLost float_of
     (λ n e.
@@ -100,7 +93,7 @@ from-float-back =
     let f = holds-float n (count_in n) k.0 k.1 in
     record { small = lt_of_le_of_lt k.1 (lit< tt); taken = f.0; same = f.1 })
 
-pub to-float-back : (v : List ℕ) → Bytes v → {w : List ℕ} → to_float v ≡ Ok w → from_float w ≡ Ok v
+pub to-float-back : (v : List ℕ) → Bytes v → (to_float v).answer ≡ Ok tt → from_float (to_float v).value ≡ record { answer = Ok tt; value = v }
 to-float-back =
     taken_back is_held CountLost float_of is_count NotWhole count_in
     (λ n e.

@@ -3,9 +3,10 @@
 // nothing, and what it leaves undefined is tested away on the bits before.
 #![tactic(auto)]
 
-ghost use Rattle.std.specs.Prelude.{◌≡◌, true, ◌≤◌, ◌%◌, eqb, length};
+ghost use Rattle.std.specs.Prelude.{◌≡◌, true, [], ◌≤◌, ◌%◌, eqb, length};
+ghost use Rattle.std.proofs.Math.Option.{none, some};
 ghost use Rattle.position.specs.Float.{units_of, units_of_one, is_count, count_in, is_held, float_of};
-ghost use Rattle.position.specs.Convert.{with_position, from_float, to_float, ConversionCrossed};
+ghost use Rattle.position.specs.Convert.{with_position, outcome, from_float, to_float, ConversionCrossed};
 
 use record::{Refusal, number};
 use word::number::read32;
@@ -19,6 +20,13 @@ const HIGHEST_FLOAT: u32 = 0x4c80_0000;
 const LOWEST_IS_ONE: u32 = 150;
 
 const HIGHEST_IS_ONE: u32 = 127;
+
+// The answer, and the eight bytes: all 0 where it is a refusal, so that the bytes stand beside the answer and not in it.
+#[derive(Clone, Copy)]
+pub struct Conversion {
+    pub answer: Result<(), Refusal>,
+    pub value: [u8; 8],
+}
 
 // Whether a float has no digit behind the point. The digits of its significand below 1 are tested by their remainder.
 fn is_whole(bits: u32) -> bool
@@ -81,56 +89,65 @@ fn float_of(count: u32) -> u32
     f32::to_bits(wide as f32)
 }
 
+fn refused(cause: Refusal) -> Conversion
+    ensures { result ≡ outcome (some cause) [] }
+{
+    Conversion {
+        answer: Err(cause),
+        value: [0; 8],
+    }
+}
+
 // The value with another position, its free bytes kept.
-fn with_position(value: &[u8], position: u32) -> [u8; 8]
+fn with_position(value: &[u8], position: u32) -> Conversion
     requires { length value.now ≡ 8 }
-    ensures { result ≡ with_position position value.now }
+    ensures { result ≡ outcome none (with_position position value.now) }
 {
     let [a, b, c, d] = position.to_le_bytes();
-    [a, b, c, d, value[4], value[5], value[6], value[7]]
+    let bytes = [a, b, c, d, value[4], value[5], value[6], value[7]];
+    Conversion {
+        answer: Ok(()),
+        value: bytes,
+    }
 }
 
 // From float: the position's bits as a float become a count.
-pub fn from_float(value: &[u8]) -> Result<[u8; 8], Refusal>
+pub fn from_float(value: &[u8]) -> Conversion
     ensures { result ≡ from_float value.now }
 {
     if value.len() != 8 {
-        return Err(Refusal::ValueLength);
+        return refused(Refusal::ValueLength);
     }
     let bits = read32(value, 0);
     if !is_count(bits) {
-        return Err(Refusal::NotWhole);
+        return refused(Refusal::NotWhole);
     }
-    Ok(with_position(value, count_in(bits)))
+    with_position(value, count_in(bits))
 }
 
 // To float: the position's count becomes the bits of a float.
-pub fn to_float(value: &[u8]) -> Result<[u8; 8], Refusal>
+pub fn to_float(value: &[u8]) -> Conversion
     ensures { result ≡ to_float value.now }
 {
     if value.len() != 8 {
-        return Err(Refusal::ValueLength);
+        return refused(Refusal::ValueLength);
     }
     let count = read32(value, 0);
     if !is_held(count) {
-        return Err(Refusal::CountLost);
+        return refused(Refusal::CountLost);
     }
-    Ok(with_position(value, float_of(count)))
+    with_position(value, float_of(count))
 }
 
-// A conversion handed to a caller in C or Rust: the number of its answer, 0 where it is accepted, and its eight bytes, all 0 where it is
-// refused.
-pub fn hand_over(made: Result<[u8; 8], Refusal>, converted: &mut [u8; 8]) -> u32
+// A conversion handed to a caller in C or Rust: the number of its answer, 0 where it is accepted, and its eight bytes.
+pub fn hand_over(made: Conversion, converted: &mut [u8; 8]) -> u32
     ensures { ConversionCrossed made converted.new result }
 {
-    match made {
-        Ok(bytes) => {
-            *converted = bytes;
-            0
-        }
-        Err(cause) => {
-            *converted = [0; 8];
-            number(cause)
-        }
+    let bytes = made.value;
+    *converted = bytes;
+    let answer = made.answer;
+    match answer {
+        Ok(()) => 0,
+        Err(cause) => number(cause),
     }
 }

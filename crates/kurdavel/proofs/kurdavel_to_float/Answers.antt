@@ -1,7 +1,8 @@
 -- `kurdavel::kurdavel_to_float` meets its contract.
 use mathlib.Core.Path.{◌∙◌, ap}
-use Rattle.position.specs.Convert.{answer_said, bytes_left}
+use Rattle.position.specs.declared.Conversion.{Conversion}
+use Rattle.position.specs.Convert.{answer_said}
 use Rattle.kurdavel.proofs.kurdavel_to_float.Goals as goal
 
 pub returns : goal.returns
-returns c = record { says = c.hand_over.ensures.says ∙ ap answer_said c.to_float.ensures; bytes = c.hand_over.ensures.bytes ∙ ap bytes_left c.to_float.ensures }
+returns c = record { says = c.hand_over.ensures.says ∙ ap (λ (x : Conversion). answer_said x.answer) c.to_float.ensures; bytes = c.hand_over.ensures.bytes ∙ ap (λ (x : Conversion). x.value) c.to_float.ensures }

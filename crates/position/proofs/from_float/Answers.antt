@@ -1,6 +1,5 @@
 -- `position::from_float` meets its contract.
 use mathlib.Core.Path.{◌∙◌, sym, ap}
-use mathlib.Core.List.{List}
 use mathlib.Core.Option.{none}
 use Prim.Native.Nat.{ℕ}
 use native.Mathlib.Omega.{arith}
@@ -11,16 +10,17 @@ use Rattle.position.specs.ConvertLaws.{told-length, told-cause, told-made}
 use Rattle.position.proofs.from_float.Goals as goal
 
 pub returns-then-value-ne8 : goal.returns-then-value-ne8
-unfolding outcome
-returns-then-value-ne8 c = told-length is_count NotWhole count_in c.args.value.now (λ e. omega (arith, c.if-value-ne8.true))
+returns-then-value-ne8 c = c.refused.ensures ∙ told-length is_count NotWhole count_in c.args.value.now (λ e. omega (arith, c.if-value-ne8.true))
 
 pub returns-then-not-is_count : goal.returns-then-not-is_count
-unfolding outcome
-returns-then-not-is_count c = told-cause is_count NotWhole count_in c.args.value.now c.read32-bits.result c.read32-bits.ensures (omega arith) (sym c.is_count.ensures ∙ c.if-not-is_count.true)
+returns-then-not-is_count c = c.refused-then-not-is_count.ensures ∙ told-cause is_count NotWhole count_in c.args.value.now c.read32-bits.result c.read32-bits.ensures (omega arith) (sym c.is_count.ensures ∙ c.if-not-is_count.true)
+
+pub count_in-requires : goal.count_in-requires
+count_in-requires c = sym c.is_count.ensures ∙ c.if-not-is_count.false
 
 pub returns : goal.returns
-unfolding outcome
 returns c =
-    ap (λ (v : List ℕ). outcome none v) (c.with_position.ensures ∙ ap (λ (n : ℕ). with_position n c.args.value.now) c.count_in.ensures)
+    c.with_position.ensures
+    ∙ ap (λ (n : ℕ). outcome none (with_position n c.args.value.now)) c.count_in.ensures
     ∙ told-made is_count NotWhole count_in c.args.value.now c.read32-bits.result c.read32-bits.ensures (omega arith)
     (sym c.is_count.ensures ∙ c.if-not-is_count.false)

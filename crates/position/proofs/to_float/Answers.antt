@@ -1,6 +1,5 @@
 -- `position::to_float` meets its contract.
 use mathlib.Core.Path.{◌∙◌, sym, ap}
-use mathlib.Core.List.{List}
 use mathlib.Core.Option.{none}
 use Prim.Native.Nat.{ℕ}
 use native.Mathlib.Omega.{arith}
@@ -11,16 +10,17 @@ use Rattle.position.specs.ConvertLaws.{told-length, told-cause, told-made}
 use Rattle.position.proofs.to_float.Goals as goal
 
 pub returns-then-value-ne8 : goal.returns-then-value-ne8
-unfolding outcome
-returns-then-value-ne8 c = told-length is_held CountLost float_of c.args.value.now (λ e. omega (arith, c.if-value-ne8.true))
+returns-then-value-ne8 c = c.refused.ensures ∙ told-length is_held CountLost float_of c.args.value.now (λ e. omega (arith, c.if-value-ne8.true))
 
 pub returns-then-not-is_held : goal.returns-then-not-is_held
-unfolding outcome
-returns-then-not-is_held c = told-cause is_held CountLost float_of c.args.value.now c.read32-count.result c.read32-count.ensures (omega arith) (sym c.is_held.ensures ∙ c.if-not-is_held.true)
+returns-then-not-is_held c = c.refused-then-not-is_held.ensures ∙ told-cause is_held CountLost float_of c.args.value.now c.read32-count.result c.read32-count.ensures (omega arith) (sym c.is_held.ensures ∙ c.if-not-is_held.true)
+
+pub float_of-requires : goal.float_of-requires
+float_of-requires c = sym c.is_held.ensures ∙ c.if-not-is_held.false
 
 pub returns : goal.returns
-unfolding outcome
 returns c =
-    ap (λ (v : List ℕ). outcome none v) (c.with_position.ensures ∙ ap (λ (n : ℕ). with_position n c.args.value.now) c.float_of.ensures)
+    c.with_position.ensures
+    ∙ ap (λ (n : ℕ). outcome none (with_position n c.args.value.now)) c.float_of.ensures
     ∙ told-made is_held CountLost float_of c.args.value.now c.read32-count.result c.read32-count.ensures (omega arith)
     (sym c.is_held.ensures ∙ c.if-not-is_held.false)
