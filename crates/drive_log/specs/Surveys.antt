@@ -211,7 +211,8 @@ module _ (L : Layout) (s : List ℕ) (top₀ : ℕ) (apart₀ : Bool) (filter₀
             so_far.splits ∙ ap (after so_far.items) (rest_end L s at e)
             ∙ ap (λ (l : List Item). scanned l at) (append-nil so_far.items)
 
-    pub telling-damage : entry_at L s at ≡ damage → PartTold L s top₀ apart₀ filter₀ false 0 false filter
+    -- whatever is said beside it of the highest version and of versions that are apart
+    pub telling-damage : {top₁ : ℕ} {apart₁ : Bool} → entry_at L s at ≡ damage → PartTold L s top₀ apart₀ filter₀ false top₁ apart₁ filter
     unfolding after is_damaged
     telling-damage e =
         record {
@@ -251,52 +252,64 @@ pub record Surveyed (v : ℕ → View) (p : ℕ → Bool) (n : ℕ) (sound : Boo
   pub unshared : sound ≡ true → apart ≡ true → version_shared (log_of v p n) ≡ false
 
 -- The slots below i that p picks are undamaged, and this was told of them.
-pub record Surveying (v : ℕ → View) (p : ℕ → Bool) (i : ℕ) (top : ℕ) (apart : Bool) (filter : List ℕ) : Type 0 where
+pub record Surveying (v : ℕ → View) (p : ℕ → Bool) (i : ℕ) (sound : Bool) (top : ℕ) (apart : Bool) (filter : List ℕ) : Type 0 where
+  pub is-sound : sound ≡ true
   pub undamaged : log_damaged v p i ≡ false
   pub told : Told (log_of v p i) top apart filter
 
-pub survey-none : (v : ℕ → View) (p : ℕ → Bool) (filter : List ℕ) → length filter ≡ 512 → Surveying v p 0 0 true filter
+pub survey-none : (v : ℕ → View) (p : ℕ → Bool) (filter : List ℕ) → length filter ≡ 512 → Surveying v p 0 true 0 true filter
 unfolding log_damaged
-survey-none v p filter size = record { undamaged = refl; told = told_none v p filter size }
+survey-none v p filter size = record { is-sound = refl; undamaged = refl; told = told_none v p filter size }
 
 -- what is told of a slot, by the answer for it
 told-slot : (v : ℕ → View) (p : ℕ → Bool) (i : ℕ) (filter : List ℕ) → P.Option Passed → Type 0
 told-slot v p i filter r = SlotTold v p i (is_sound r) (highest_in r) (apart_in r) filter
 
-module _ (v : ℕ → View) (p : ℕ → Bool) (i : ℕ) (top : ℕ) (apart : Bool) (filter : List ℕ) (so_far : Surveying v p i top apart filter) where
-  pub survey-skip : p i ≡ false → Surveying v p (i + 1) top apart filter
+module _ (v : ℕ → View) (p : ℕ → Bool) (i : ℕ) (sound : Bool) (top : ℕ) (apart : Bool) (filter : List ℕ) (so_far : Surveying v p i sound top apart filter) where
+  pub survey-skip : p i ≡ false → Surveying v p (i + 1) sound top apart filter
   survey-skip q =
       record {
+        is-sound = so_far.is-sound;
         undamaged = sound-slot v p i (both-false-left (p i) (is_damaged (v i).scan) q) so_far.undamaged;
         told = subst (λ (l : List Placed). Told l top apart filter) (sym (log-skip v p i q)) so_far.told;
       }
 
-  pub survey-take : (r : P.Option Passed) (filter₁ : List ℕ) → SlotTold v p i (is_sound r) (highest_in r) (apart_in r) filter₁ → (q : Passed)
-      → r ≡ P.Some q → Surveying v p (i + 1) q.highest.0 q.apart filter₁
-  unfolding is_sound highest_in apart_in told-slot
-  survey-take r filter₁ h q e =
-      let t = subst (told-slot v p i filter₁) e h in
+  pub survey-take : (sound₁ : Bool) (top₁ : ℕ) (apart₁ : Bool) (filter₁ : List ℕ) → SlotTold v p i sound₁ top₁ apart₁ filter₁ → sound₁ ≡ true
+      → Surveying v p (i + 1) sound₁ top₁ apart₁ filter₁
+  survey-take sound₁ top₁ apart₁ filter₁ h e =
       record {
-        undamaged = sound-slot v p i (both-false-right (p i) (is_damaged (v i).scan) (t.undamaged refl)) so_far.undamaged;
-        told = t.told refl;
+        is-sound = e;
+        undamaged = sound-slot v p i (both-false-right (p i) (is_damaged (v i).scan) (h.undamaged e)) so_far.undamaged;
+        told = h.told e;
       }
 
-  pub survey-end : Surveyed v p i true top apart
+  -- the same where the answer for the slot is what it has passed
+  pub passed-take : (r : P.Option Passed) (filter₁ : List ℕ) → SlotTold v p i (is_sound r) (highest_in r) (apart_in r) filter₁ → (q : Passed)
+      → r ≡ P.Some q → Surveying v p (i + 1) true q.highest.0 q.apart filter₁
+  unfolding is_sound highest_in apart_in told-slot
+  passed-take r filter₁ h q e = survey-take true q.highest.0 q.apart filter₁ (subst (told-slot v p i filter₁) e h) refl
+
+  pub survey-end : Surveyed v p i sound top apart
   survey-end =
       record {
-        damage = λ e. absurd (clash true refl e);
+        damage = λ e. absurd (clash sound so_far.is-sound e);
         undamaged = λ e. so_far.undamaged;
         highest-is = λ e. so_far.told.highest-is;
         unshared = λ e a. count-shared (log_of v p i) (so_far.told.once a);
       }
 
-pub survey-damaged : (v : ℕ → View) (p : ℕ → Bool) (i n : ℕ) → i < n → p i ≡ true → (r : P.Option Passed) (filter : List ℕ)
-    → SlotTold v p i (is_sound r) (highest_in r) (apart_in r) filter → r ≡ P.None → Surveyed v p n false 0 false
-unfolding is_sound highest_in apart_in
-survey-damaged v p i n h q r filter told e =
+pub survey-damaged : (v : ℕ → View) (p : ℕ → Bool) (i n : ℕ) → i < n → p i ≡ true → (sound : Bool) (top : ℕ) (apart : Bool) (filter : List ℕ)
+    → SlotTold v p i sound top apart filter → sound ≡ false → Surveyed v p n sound top apart
+survey-damaged v p i n h q sound top apart filter told e =
     record {
-      damage = λ f. damaged-slot v p i n h q (told.damage (ap is_sound e));
-      undamaged = λ f. absurd (clash false f refl);
-      highest-is = λ f. absurd (clash false f refl);
-      unshared = λ f a. absurd (clash false f refl);
+      damage = λ f. damaged-slot v p i n h q (told.damage e);
+      undamaged = λ f. absurd (clash sound f e);
+      highest-is = λ f. absurd (clash sound f e);
+      unshared = λ f a. absurd (clash sound f e);
     }
+
+-- the same where the answer for the slot is none
+pub none-damaged : (v : ℕ → View) (p : ℕ → Bool) (i n : ℕ) → i < n → p i ≡ true → (r : P.Option Passed) (filter : List ℕ)
+    → SlotTold v p i (is_sound r) (highest_in r) (apart_in r) filter → r ≡ P.None → Surveyed v p n false 0 false
+unfolding is_sound highest_in apart_in told-slot
+none-damaged v p i n h q r filter told e = survey-damaged v p i n h q false 0 false filter (subst (told-slot v p i filter) e told) refl
