@@ -93,7 +93,9 @@ fn copy_chosen(
     move_entry(edition, into, area, header, place, work, to)
 }
 
-// What is chosen of a slot, read in an edition. Damage, which no log of ours has, ends a segment too.
+// What is chosen of a slot, read in an edition. Damage, which no log of ours has, ends a segment too. It is called once for a slot that
+// is rewritten, and never put in line: a cleaning would take 8 bytes of stack more than the header states.
+#[inline(never)]
 fn copy_slot(
     edition: Edition,
     into: Edition,
