@@ -10,6 +10,9 @@ ghost use Rattle.histories.specs.Numbered.{word};
 
 pub mod book;
 
+// The longest word. The clauses below have its number, as `short` of a word has.
+pub const LONGEST: u32 = 6;
+
 // A and B write the first and the second key, a and b delete them, C cleans all slots of the log. A letter's number is its code.
 #[derive(Clone, Copy, PartialEq, Eq)]
 pub enum Letter {

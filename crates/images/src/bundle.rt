@@ -2,7 +2,8 @@
 // lengths of the name (1) and of the order list (1), and the number of keys to read (1); then the name, the order list, the
 // stored bytes, and six bytes for each key. Numbers are little-endian. The bytes of an area that are not stored are junk.
 ghost use Rattle.std.specs.Prelude.{◌≤◌, ◌<◌, ◌+◌, ◌≡◌, length};
-ghost use Rattle.images.specs.Bundle.{header_of, item_length, item_end, key_at};
+ghost use Rattle.std.specs.Option.{IfSome, is_none};
+ghost use Rattle.images.specs.Bundle.{header_of, item_length, item_end, key_at, name_in, order_in, stored_in, keys_in, lacks_part};
 
 use segment::Key;
 use word::number::{read16, read32};
@@ -75,7 +76,11 @@ pub fn item_end(bundle: &[u8], at: usize) -> usize
 }
 
 // The parts of an item; none where it lacks one.
-pub(crate) fn parts(bytes: &[u8]) -> Option<Item<'_>> {
+pub(crate) fn parts(bytes: &[u8]) -> Option<Item<'_>>
+    ensures lacks { is_none result ≡ lacks_part bytes.now }
+    ensures cut { IfSome result (λ item. (item.header ≡ header_of bytes.now) × (item.name.now ≡ name_in bytes.now)
+        × (item.order.now ≡ order_in bytes.now) × (item.stored.now ≡ stored_in bytes.now) × (item.keys.now ≡ keys_in bytes.now)) }
+{
     if bytes.len() < HEADER {
         return None;
     }

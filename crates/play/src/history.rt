@@ -28,6 +28,9 @@ pub enum Event {
     Recover,
 }
 
+// How many events there are.
+pub const EVENTS: usize = 158;
+
 // The history stands in parts: the check of one table of all events takes far longer.
 
 // 01's cases, with the cuts of case 3.
@@ -213,6 +216,10 @@ const MORE_JOINS: [Event; 31] = [
     Event::Write(3, 56, 0x47, 1),
     Event::Recover,
 ];
+
+const _: () = prove!(
+    CASES.len() + CHANGES.len() + FILLED.len() + JOINS.len() + MORE_JOINS.len() == EVENTS
+);
 
 // The parts in their order.
 pub const PARTS: [&[Event]; 5] = [&CASES, &CHANGES, &FILLED, &JOINS, &MORE_JOINS];

@@ -1,6 +1,6 @@
 // An operation of a history: its start, its steps to the end or to the failing of the supply, and a cut after each of its stores.
-// A function that makes calls has no contract of its own where theirs say nothing of records that are not genuine; what it
-// answers shows in the output.
+// A function that makes calls promises nothing of its answer where their contracts say nothing of records that are not genuine; what
+// it answers shows in the output.
 ghost use Rattle.std.specs.Prelude.{◌≡◌, ◌==◌, ◌≤◌};
 ghost use Rattle.segment.specs.Choice.{pick};
 ghost use Rattle.play.specs.Book.{played};
@@ -93,6 +93,7 @@ fn steps<R: Print>(
     due: Due,
 ) -> Record
     requires { rest ≤ stores }
+    ensures kept { lent.new.work ≡ lent.old.work }
 {
     let mut rec = rec;
     let mut bad = 0;
@@ -182,7 +183,9 @@ fn accepted<R: Print>(
     lent: &mut Memory,
     stores: u32,
     due: Due,
-) -> Played {
+) -> Played
+    ensures kept { lent.new.work ≡ lent.old.work }
+{
     let count = work_bytes(rec);
     let rest = unmade(stores, due.fails);
     let book = book_at(rest, due);
@@ -203,7 +206,9 @@ fn accepted<R: Print>(
 }
 
 // An operation from its start on.
-fn run<R: Print>(out: &mut Output<'_, R>, start: Start, lent: &mut Memory, due: Due) -> Played {
+fn run<R: Print>(out: &mut Output<'_, R>, start: Start, lent: &mut Memory, due: Due) -> Played
+    ensures kept { lent.new.work ≡ lent.old.work }
+{
     let answer = start.answer;
     let rec = start.rec;
     let book = due.before;
